@@ -5,3 +5,4 @@ mod Numbered
 mod Passing
 mod Settled
 mod Matched
+mod Wholly

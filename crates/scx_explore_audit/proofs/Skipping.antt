@@ -16,7 +16,7 @@ use Rattle.scx_explore_findings.proofs.EventSizes.{sized_after}
 use Rattle.scx_explore_audit.specs.declared.table.Moves.{Moves}
 use Rattle.scx_explore_audit.specs.declared.table.Moves.TheVariants.{Events, Milliseconds}
 use Rattle.scx_explore_audit.specs.Claims.{TaskSet, of_tasks, ticks, millisecond, IsMillisecond, IsMove, AreFree, ShowsNone, ShowsNoneAtFirst, accepted_of, list_of}
-use Rattle.scx_explore_audit.specs.Laws.{NoneIn, ShowsAsAccepted, RefusedEventsShowNothing}
+use Rattle.scx_explore_audit.specs.Laws.{NoneIn, RefusedEventsShowNothing}
 
 -- no list of moves shows anything as far as its events are accepted
 abbrev pub NoneAtFirst : Moves → Option ℕ → List Sort → SimState → Type 0

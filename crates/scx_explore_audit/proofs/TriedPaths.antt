@@ -1,9 +1,9 @@
 -- Paths that go on by an event, and back.
-use Rattle.std.proofs.Common.{◌≡◌, ℕ, List, [], ◌∷◌, ◌++◌, length, take, All, Option, Some, None, is_none, if◌then◌else◌, Ok, refl, sym, ap, ◌∙◌, subst}
+use Rattle.std.proofs.Common.{◌≡◌, ℕ, List, [], ◌∷◌, ◌++◌, length, take, All, Option, Some, None, refl, sym, ap, ◌∙◌, subst}
 use Rattle.std.proofs.lemmas.List.Elements.{All-push, All-take}
 use Rattle.scx_sched_machine.specs.declared.events.Event.{Event}
 use Rattle.scx_sched_machine.specs.declared.events.Refused.{Refused}
-use Rattle.scx_sched.specs.Sim.{refusal, answer_of, after_event}
+use Rattle.scx_sched.specs.Sim.{refusal, after_event}
 use Rattle.scx_explore_findings.specs.Path.{PathState, machine_of, went_back, went_on}
 use Rattle.scx_explore_findings.proofs.CommonBeginnings.{went_accepted, went_refused}
 use Rattle.scx_explore_audit.specs.Claims.{IsTried}

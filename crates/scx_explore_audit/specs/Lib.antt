@@ -2,5 +2,6 @@ pub mod Claims
 pub mod Closed
 pub mod Laws
 pub mod Rows
+pub mod Whole
 pub mod Marks
 pub mod Steps

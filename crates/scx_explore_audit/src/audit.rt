@@ -4,6 +4,7 @@ ghost use Rattle.scx_explore_audit.specs.Claims.{IsTried};
 ghost use Rattle.scx_explore_audit.specs.Closed.{AreNumbersOf, IsClosed, IsMet, IsSettled, IsWithin, Respects, claim_of};
 ghost use Rattle.scx_explore_audit.specs.Laws.{NoneIn};
 ghost use Rattle.scx_explore_audit.specs.Marks.{ArePast};
+ghost use Rattle.scx_explore_audit.specs.Whole.{NeedsNoPremise};
 
 use crate::depths::{depths_of, marks_of};
 use crate::queues::are_queues;
@@ -35,6 +36,10 @@ pub fn none_in_lists(
         → Respects table.entry.form table.entry.numbers.now table.entry.moves
         table.entry.sorts.now path.old.root path.old.room
         → NoneIn table.entry.moves table.entry.limit table.entry.sorts.now path.old.root) }
+    // Of a form that keeps everything that is proved, by plain rules.
+    ensures whole { IfOk result (λ closed. closed ≡ true
+        → NeedsNoPremise table.entry.form table.entry.moves table.entry.limit
+        table.entry.sorts.now path.old.root path.old.room) }
 {
     let depths = depths_of(alloc, table.seen)?;
     let charted = Charted {

@@ -1,5 +1,6 @@
 ghost use Rattle.scx_explore_audit.specs.Laws.{ClosedTablesCover, ListsAreOfEvents, RefusedEventsShowNothing};
 ghost use Rattle.scx_explore_audit.specs.Rows.{UnreadPartsAreRespected};
+ghost use Rattle.scx_explore_audit.specs.Whole.{WholeFormsAreRespected};
 
 /// Where a table of states is closed, and what its words leave out changes nothing, no list of moves shows what none of
 /// its states shows. The function does nothing: its contract is the law.
@@ -19,9 +20,17 @@ pub fn lists_are_of_events()
     ensures { ListsAreOfEvents }
 {}
 
-/// Of two states that are the same but for parts that nothing reads, and for the number of events that led there, each
-/// move of the first is matched by the same move: order numbers of pushes, the last callback, kicks under plain rules, and
+/// Each move of a state is matched by the same move of a state that differs from it only in the number of events that
+/// led there and in parts that nothing reads: order numbers of pushes, the last callback, kicks under plain rules, and
 /// usages where no group has a quota. The function does nothing: its contract is the law.
 pub fn unread_parts_are_respected()
     ensures { UnreadPartsAreRespected }
+{}
+
+/// If a form keeps all that programs can read, what it leaves out changes nothing, in lists from a machine that goes by plain
+/// rules, with no timers, at most eight tasks and sixteen CPUs. Such a form may leave out the number of pushes; the clock
+/// if no program reads it and slices end exactly; and keys, random numbers, run times and virtual times that no program
+/// inserts by, draws or loads. The function does nothing: its contract is the law.
+pub fn whole_forms_are_respected()
+    ensures { WholeFormsAreRespected }
 {}

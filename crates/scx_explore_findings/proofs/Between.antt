@@ -38,93 +38,93 @@ use Rattle.scx_sched_machine.proofs.Choices.{keeps_if}
 use Rattle.scx_explore_findings.specs.Between.{IsQuiet, EventsLeaveNoNotes}
 use Rattle.scx_explore_findings.proofs.Helpers.{by_helper}
 use Rattle.scx_explore_findings.proofs.Queries.{IsAllowed, stores_allowed, asks_allowed, run_keeps}
-use Rattle.scx_explore_findings.proofs.EventWalk.{IsKeptBySmallSteps, eject_policy, call_back_policy, put_policy, settled_policy, walk_after}
+use Rattle.scx_explore_findings.proofs.EventWalk.{cycled_anyhow, IsKeptBySmallSteps, eject_policy, call_back_policy, put_policy, settled_policy, walk_after}
 
--- ---- what keeps the notes, whether idle processors are tracked, and whether the policy is in force
+-- ---- what keeps the notes, whether idle processors are tracked, whether the policy is in force, and the random number
 
-module _ (P : List Note → Bool → Option Eject → Type 0) where
+module _ (P : List Note → Bool → Option Eject → ℕ → Type 0) where
   -- of a world
   abbrev Of : WorldState → Type 0
-  Of w = P w.notes w.tracks_idle w.ejected
+  Of w = P w.notes w.tracks_idle w.ejected w.random
 
-  of_homed : (w : WorldState) (t c : ℕ) → Of w → Of (homed w t c)
+  pub of_homed : (w : WorldState) (t c : ℕ) → Of w → Of (homed w t c)
   of_homed w t c h = keeps_if Of (is_by_linux w) (with_task w t (with_home (task_at w t) c)) w h h
 
-  of_homed_at : (w : WorldState) (t : ℕ) (o : Option ℕ) → Of w → Of (homed_at w t o)
+  pub of_homed_at : (w : WorldState) (t : ℕ) (o : Option ℕ) → Of w → Of (homed_at w t o)
   of_homed_at w t None h = h
   of_homed_at w t (Some c) h = of_homed w t c h
 
-  of_preempt_of : (w : WorldState) (c : ℕ) (o : Option ℕ) → Of w → Of (after_preempt_of w c o)
+  pub of_preempt_of : (w : WorldState) (c : ℕ) (o : Option ℕ) → Of w → Of (after_preempt_of w c o)
   of_preempt_of w c None h = h
   of_preempt_of w c (Some t) h = keeps_if Of (is_this c w.cycling) w (with_kick (with_task w t (with_slice (task_at w t) 0)) c) h h
 
-  of_preempt_at : (w : WorldState) (o : Option ℕ) → Of w → Of (after_preempt_at w o)
+  pub of_preempt_at : (w : WorldState) (o : Option ℕ) → Of w → Of (after_preempt_at w o)
   of_preempt_at w None h = h
   of_preempt_at w (Some c) h = of_preempt_of w c (running w c) h
 
-  of_preempt : (w : WorldState) (i : Insert) → Of w → Of (after_preempt w i)
+  pub of_preempt : (w : WorldState) (i : Insert) → Of w → Of (after_preempt w i)
   of_preempt w i h = keeps_if Of i.preempts (after_preempt_at w (local_cpu w i.queue)) w (of_preempt_at w (local_cpu w i.queue) h) h
 
-  of_entered : (w : WorldState) (t : ℕ) (i : Insert) → Of w → Of (after_enter w t i)
+  pub of_entered : (w : WorldState) (t : ℕ) (i : Insert) → Of w → Of (after_enter w t i)
   of_entered w t i h =
       let given = with_queues (with_task w t (task_after_insert (task_at w t) i)) (after_push w.queues i.queue t (rank_by w i.rank)) in
       let home = homed_at given t (local_cpu w i.queue) in
       keeps_if Of (nat_lt t (length w.tasks)) (after_preempt home i) w (of_preempt home i (of_homed_at given t (local_cpu w i.queue) h)) h
 
-  of_local : (w : WorldState) (c t : ℕ) → Of w → Of (after_local w c t)
+  pub of_local : (w : WorldState) (c t : ℕ) → Of w → Of (after_local w c t)
   of_local w c t h = of_homed (with_queues w (after_push w.queues (local_on c) t Fifo)) t c h
 
-  of_brought : (o : Option ℕ) (w : WorldState) (c : ℕ) → Of w → Of (brought o w c)
+  pub of_brought : (o : Option ℕ) (w : WorldState) (c : ℕ) → Of w → Of (brought o w c)
   of_brought None w c h = h
   of_brought (Some t) w c h = of_local (after_leave w t) c t h
 
-  of_kept : (w : WorldState) (o : Option ℕ) → Of w → Of (after_keep w o)
+  pub of_kept : (w : WorldState) (o : Option ℕ) → Of w → Of (after_keep w o)
   of_kept w None h = h
   of_kept w (Some t) h = h
 
-  of_put_parked : (w : WorldState) (t : ℕ) → Of w → Of (put_parked w t)
+  pub of_put_parked : (w : WorldState) (t : ℕ) → Of w → Of (put_parked w t)
   of_put_parked w t h = keeps_if Of (nat_lt t (length w.tasks)) _ w h h
 
-  of_put_builtin : (w : WorldState) (t : ℕ) → Of w → Of (put_builtin w t)
+  pub of_put_builtin : (w : WorldState) (t : ℕ) → Of w → Of (put_builtin w t)
   of_put_builtin w t h = keeps_if Of (nat_lt t (length w.tasks)) _ w h h
 
-  of_asleep : (w : WorldState) (t : ℕ) → Of w → Of (after_sleep w t)
+  pub of_asleep : (w : WorldState) (t : ℕ) → Of w → Of (after_sleep w t)
   of_asleep w t h = keeps_if Of (nat_lt t (length w.tasks)) _ w h h
 
-  of_used : (w : WorldState) (t : ℕ) → Of w → Of (used_ms w t)
+  pub of_used : (w : WorldState) (t : ℕ) → Of w → Of (used_ms w t)
   of_used w t h = keeps_if Of (nat_lt t (length w.tasks)) _ w h h
 
-  of_reweighed : (w : WorldState) (g x : ℕ) → Of w → Of (after_reweigh w g x)
+  pub of_reweighed : (w : WorldState) (g x : ℕ) → Of w → Of (after_reweigh w g x)
   of_reweighed w g x h = keeps_if Of (is_none (weight_fault w.tree g x)) (with_tree w (with_weight w.tree g x)) w h h
 
-  of_weighed : (w : WorldState) (t x : ℕ) → Of w → Of (after_own_weight w t x)
+  pub of_weighed : (w : WorldState) (t x : ℕ) → Of w → Of (after_own_weight w t x)
   of_weighed w t x h = keeps_if Of (is_none (own_weight_fault w.tree t x)) (with_tree w (with_own_weight w.tree t x)) w h h
 
-  of_claimed : (w : WorldState) (o : Option ℕ) → Of w → Of (after_claim w o)
+  pub of_claimed : (w : WorldState) (o : Option ℕ) → Of w → Of (after_claim w o)
   of_claimed w None h = h
   of_claimed w (Some c) h = keeps_if Of (is_by_linux w) _ w h h
 
-  of_choice : (w : WorldState) (o : Option ℕ) → Of w → Of (inserted_by_choice w o)
+  pub of_choice : (w : WorldState) (o : Option ℕ) → Of w → Of (inserted_by_choice w o)
   of_choice w None h = h
   of_choice w (Some c) h = h
 
-  of_chosen : (w : WorldState) (t : ℕ) → Of w → Of (chosen_by_default w t)
+  pub of_chosen : (w : WorldState) (t : ℕ) → Of w → Of (chosen_by_default w t)
   of_chosen w t h =
       let o = choice w t in
       keeps_if Of (is_by_linux w) (inserted_by_choice (after_claim w o) o) w (of_choice (after_claim w o) o (of_claimed w o h)) h
 
   -- tasks that go over to the built-in scheduler
-  of_evicted : (j : ℕ) (w : WorldState) → Of w → Of (after_evictions j w)
+  pub of_evicted : (j : ℕ) (w : WorldState) → Of w → Of (after_evictions j w)
   of_evicted zero w h = h
   of_evicted (suc j) w h =
       let u = after_evictions j w in
       keeps_if Of (waits u j) (put_builtin (after_leave u j) j) u (of_put_builtin (after_leave u j) j (of_evicted j w h)) (of_evicted j w h)
 
-  of_cut_task : (o : Option ℕ) (w : WorldState) → Of w → Of (cut_task o w)
+  pub of_cut_task : (o : Option ℕ) (w : WorldState) → Of w → Of (cut_task o w)
   of_cut_task None w h = h
   of_cut_task (Some t) w h = h
 
-  of_cut : (j : ℕ) (w : WorldState) → Of w → Of (after_cut j w)
+  pub of_cut : (j : ℕ) (w : WorldState) → Of w → Of (after_cut j w)
   of_cut zero w h = h
   of_cut (suc j) w h = of_cut_task (running (after_cut j w) j) (after_cut j w) (of_cut j w h)
 
@@ -139,16 +139,16 @@ some_isnt_none : (x : Eject) → Some x ≡ None → ⊥
 some_isnt_none x e = subst IsEjected e tt
 
 -- idle processors are tracked so while the policy is in force
-abbrev Tracks : Bool → List Note → Bool → Option Eject → Type 0
-Tracks b ns x o = o ≡ None → x ≡ b
+abbrev Tracks : Bool → List Note → Bool → Option Eject → ℕ → Type 0
+Tracks b ns x o r = o ≡ None → x ≡ b
 
 -- and no note is left
-abbrev Quiet : Bool → List Note → Bool → Option Eject → Type 0
-Quiet b ns x o = (ns ≡ []) × (o ≡ None → x ≡ b)
+abbrev Quiet : Bool → List Note → Bool → Option Eject → ℕ → Type 0
+Quiet b ns x o r = (ns ≡ []) × (o ≡ None → x ≡ b)
 
 module _ (b : Bool) where
   abbrev Tracked : WorldState → Type 0
-  Tracked w = Tracks b w.notes w.tracks_idle w.ejected
+  Tracked w = Tracks b w.notes w.tracks_idle w.ejected w.random
 
   tracked_released : (w : WorldState) (t : Option ℕ) (i : Insert) → Tracked w → Tracked (after_release w t i)
   tracked_released w None i h = h
@@ -176,7 +176,7 @@ module _ (b : Bool) where
     kicked = λ c. h;
     preempted = λ c. h;
     timed = λ n o. h;
-    drawn = h;
+    drawn = λ may. h;
   }) f free a
 
   tracked_query : (e : Callback) (w : WorldState) (q : Query) → IsAllowed e q → Tracked w → Tracked (after_query world_functions w q)
@@ -247,14 +247,15 @@ module _ (b : Bool) where
     stopped = λ w c t h. h;
     charged = λ w t h. h;
     caught_up = λ w t h. h;
-    cycles = λ w o claimed x h. h;
+    cycled = cycled_anyhow (IsQuiet b) (λ w o claimed x h. h);
+    passes = λ w o x h. h;
     woken = λ w t h. h;
     asleep = of_asleep (Quiet b);
     ticked = λ w t h. h;
     used = of_used (Quiet b);
     let_off = λ w t h. h;
     begun = λ w h. h;
-    reweighed = of_reweighed (Quiet b);
+    reweighed = λ may. of_reweighed (Quiet b);
     fronted = λ w t c h. of_entered (Quiet b) w t (to_front c) h;
     runs = λ w c t h. h;
     lengthened = λ w t h. h;
@@ -266,7 +267,7 @@ module _ (b : Bool) where
     unkicked = λ w c h. h;
     counted = λ w d h. h;
     unstarted = λ w n h. h;
-    weighed = of_weighed (Quiet b);
+    weighed = λ may. of_weighed (Quiet b);
   }
 
 -- an event leaves no note, whether it is accepted or not

@@ -30,7 +30,7 @@ use Rattle.scx_sched_machine.specs.Events.{insert_or_put}
 use Rattle.scx_sched_machine.proofs.Choices.{keeps_if}
 use Rattle.scx_sched.specs.Sim.{SimState, after_event}
 use Rattle.scx_explore_findings.proofs.Queries.{IsAllowed, stores_allowed, asks_allowed, run_keeps}
-use Rattle.scx_explore_findings.proofs.EventWalk.{IsKeptBySmallSteps, eject_policy, call_back_policy, put_policy, settled_policy, walk_after}
+use Rattle.scx_explore_findings.proofs.EventWalk.{cycled_anyhow, IsKeptBySmallSteps, eject_policy, call_back_policy, put_policy, settled_policy, walk_after}
 use Rattle.scx_explore_findings.proofs.WorldSizes.{HasSize, sized_query, sized_evicted, sized_cut, sized_task, sized_homed, sized_entered, sized_put_builtin, sized_brought, sized_put_parked, sized_started, sized_run, sized_kept, sized_stopped, sized_asleep, sized_left, sized_used, sized_reweighed, sized_weighed, sized_chosen}
 
 module _ (v : WorldState) where
@@ -89,7 +89,7 @@ module _ (v : WorldState) where
 
   -- ---- events
 
-  sized_steps : (p : PolicyState) → IsKeptBySmallSteps p (HasSize v)
+  pub sized_steps : (p : PolicyState) → IsKeptBySmallSteps p (HasSize v)
   sized_steps p = record {
     called_back = λ s b a t c barred h. (call_back_policy s b a t c ∙ h.0, sized_call_back s b a t c barred h.1);
     ejected = λ s x h. (eject_policy s x ∙ h.0, sized_eject s x h.1);
@@ -103,14 +103,15 @@ module _ (v : WorldState) where
     stopped = sized_stopped v;
     charged = λ w t h. sized_task v w t _ h;
     caught_up = λ w t h. h;
-    cycles = λ w o claimed x h. h;
+    cycled = cycled_anyhow (HasSize v) (λ w o claimed x h. h);
+    passes = λ w o x h. h;
     woken = λ w t h. sized_task v w t _ h;
     asleep = sized_asleep v;
     ticked = λ w t h. sized_task v w t _ h;
     used = sized_used v;
     let_off = λ w t h. sized_left v (with_task w t (with_since (task_at w t) (Some w.clock))) t (sized_task v w t (with_since (task_at w t) (Some w.clock)) h);
     begun = λ w h. h;
-    reweighed = sized_reweighed v;
+    reweighed = λ may. sized_reweighed v;
     fronted = λ w t c h. sized_entered v w t (to_front c) h;
     runs = sized_run v;
     lengthened = λ w t h. sized_task v w t _ h;
@@ -122,9 +123,13 @@ module _ (v : WorldState) where
     unkicked = λ w c h. h;
     counted = λ w b h. h;
     unstarted = λ w n h. (h.0, h.1, h.2, h.3, h.4, h.5 ∙ sym (length-set w.timers n None));
-    weighed = sized_weighed v;
+    weighed = λ may. sized_weighed v;
   }
 
   -- an event keeps all of it, whether it is accepted or not
   pub sized_after : (s : SimState) (e : Event) → HasSize v s.state.world → HasSize v (after_event s e).state.world
   sized_after s e h = (walk_after s.state.policy (HasSize v) (sized_steps s.state.policy) s e (refl, h)).1
+
+-- an event keeps the policy, whether it is accepted or not
+pub policy_after : (s : SimState) (e : Event) → (after_event s e).state.policy ≡ s.state.policy
+policy_after s e = (walk_after s.state.policy (HasSize s.state.world) (sized_steps s.state.world s.state.policy) s e (refl, (refl, refl, refl, refl, refl, refl))).0

@@ -7,6 +7,7 @@ use Rattle.scx_isa_semantics.specs.declared.callbacks.Callback.{Callback}
 use Rattle.scx_isa_semantics.specs.declared.callbacks.Callback.TheVariants as callback
 use Rattle.scx_isa_semantics.specs.declared.host_tables.Helper.TheVariants.{CreateDsq}
 use Rattle.scx_isa_semantics.specs.HostTables.{is_allowed}
+use Rattle.scx_isa_semantics.specs.Elements.{Maps}
 use Rattle.scx_vm.specs.declared.arguments.Args.{Args}
 use Rattle.scx_sched_world.specs.declared.call.Insert.{Insert}
 use Rattle.scx_sched_world.specs.declared.cpu_set.CpuSet.{CpuSet}
@@ -19,7 +20,7 @@ use Rattle.scx_sched_world.specs.Helpers.{with_timer, after_fire}
 use Rattle.scx_sched_world.specs.Ids.{global, builtin_queue, parked_queue, local_on}
 use Rattle.scx_sched_world.specs.CpuSets.{is_in_set}
 use Rattle.scx_sched_world.specs.World as world
-use Rattle.scx_sched_world.specs.World.{WorldState, are_linux, with_switch, with_slept, with_waker, with_kick, without_kick, with_timer_at_hand, out_of_cycle, task_at, first_home, is_throttled, waits, running, cpu_of, is_idle, at_callback}
+use Rattle.scx_sched_world.specs.World.{WorldState, are_linux, switch_at, with_switch, with_cycling, with_slept, with_waker, with_kick, without_kick, with_timer_at_hand, out_of_cycle, task_at, first_home, is_throttled, waits, running, cpu_of, is_idle, at_callback}
 use Rattle.scx_sched_world.specs.Tasks.{after_wake, after_sleep, after_leave, homed, after_enter, to_front, brought, fill_front, after_stop, started_at, after_run, after_keep, after_switch, after_cut_off, put_parked, let_go, after_tick, used_ms, later, begun_periods, after_reweigh, after_own_weight}
 use Rattle.scx_sched_world.specs.Ejecting.{after_charge, after_catch_up}
 use Rattle.scx_sched_machine.specs.declared.events.Event.{Event}
@@ -39,7 +40,7 @@ use Rattle.scx_sched_machine.specs.Rounds.{most_rounds, next_to_look, cut_off_if
 use Rattle.scx_vm.specs.Programs.{VerifiedProgram}
 use Rattle.scx_sched_machine.specs.Events.{target, insert_or_put, woken, wake_target, comes_to, told_runnable, settle, chosen_by_default, chosen, ask_target, asks_target, settle_at_home, select, from_waker, wake, told_of_sleep, falls_asleep, looks_after_sleep, leaves_cpu, leaves_queue, sleep_from_cpu, sleep_from_queue, sleep_from, sleep, throttle, ends_slices, expire, use_up, hears_tick, tick_heard, count_down, tick_idle, tick_of, tick, overdue, eject_if_stalled, watch, timers_and_watchdog, clock, restore_flag, change_flags, takes_weight, changes_weight, reweigh_running, reweigh_waiting, reweigh_off_cpu, reweigh_at, reweigh_by_linux, reweigh, own_step, event_step}
 use Rattle.scx_sched_machine.proofs.Choices.{keeps_if}
-use Rattle.scx_sched.proofs.Marks.{kept_switch, kept_cycling}
+use Rattle.scx_sched.proofs.Marks.{kept_cycling}
 use Rattle.scx_sched.specs.Sim.{SimState, stepped_if, refusal, after_event}
 use Rattle.scx_load_driver.specs.Runs.{stepped_all}
 
@@ -88,22 +89,40 @@ linux_in_force w e = go w.ejected (and_parts (are_linux w.rules) (is_none w.ejec
 
 -- ---- the walk
 
+-- policy and maps of the state have one property, and its world another
+abbrev pub HoldsIn : (PolicyState → Maps → Type 0) → (WorldState → Type 0) → State → Type 0
+HoldsIn K I s = K s.policy s.maps × I s.world
+
+-- the policy is that one
+abbrev pub IsPolicy : PolicyState → PolicyState → Maps → Type 0
+IsPolicy p q maps = q ≡ p
+
 -- the state is under that policy, and its world has the property
 abbrev pub IsKeptIn : PolicyState → (WorldState → Type 0) → State → Type 0
-IsKeptIn p I s = (s.policy ≡ p) × I s.world
+IsKeptIn p I s = HoldsIn (IsPolicy p) I s
+
+-- the event changes a weight
+abbrev pub IsWeighing : Event → Type 0
+IsWeighing (SetWeight g x) = Unit {0}
+IsWeighing (SetTaskWeight t x) = Unit {0}
+IsWeighing e = ⊥
 
 -- whichever cycle is under way, whichever processors are claimed, and whatever passes with the event, the property stays
 abbrev pub KeepsAnyCycle : (WorldState → Type 0) → Type 0
 KeepsAnyCycle I = (w : WorldState) (o : Option ℕ) (claimed : CpuSet) (x : Passing) → I w → I (record w { cycling = o; claimed = claimed; passing = x })
 
--- each small step keeps that: a callback that may create no queue, an ejection, a task that is put, or inserted as was
+-- so a cycle may begin or end
+pub cycled_anyhow : (I : WorldState → Type 0) → KeepsAnyCycle I → (w : WorldState) (o : Option ℕ) → I w → I (with_cycling w o)
+cycled_anyhow I k w o h = kept_cycling I (λ v p claimed x wakes i. k v p claimed x i) w o h
+
+-- Each small step keeps that: a callback that may create no queue, an ejection, a task that is put, or inserted as was
 -- wanted in an earlier world, while the policy was in force; and of worlds what the machine does to its queues, tasks,
--- groups and processors, by both rules
-pub record IsKeptBySmallSteps (p : PolicyState) (I : WorldState → Type 0) : Type 0 where
-  pub called_back : (s : State) (b : Callback) (a : Args) (t c : ℕ) → is_allowed CreateDsq b ≡ false → IsKeptIn p I s → IsKeptIn p I (call_back s b a t c).state
-  pub ejected : (s : State) (x : Eject) → IsKeptIn p I s → IsKeptIn p I (eject s x).state
-  pub puts : (s : State) (t c flags : ℕ) → IsKeptIn p I s → IsKeptIn p I (put s t c flags).state
-  pub settled : (v : WorldState) (s : State) (t c : ℕ) → (s.world.ejected ≡ None → v.ejected ≡ None) → I v → IsKeptIn p I s → IsKeptIn p I (insert_or_put v.call.insert s t c).state
+-- groups and processors, by both rules. Changes of weights do where these may change.
+pub record IsKeptByAll (W : Type 0) (K : PolicyState → Maps → Type 0) (I : WorldState → Type 0) : Type 0 where
+  pub called_back : (s : State) (b : Callback) (a : Args) (t c : ℕ) → is_allowed CreateDsq b ≡ false → HoldsIn K I s → HoldsIn K I (call_back s b a t c).state
+  pub ejected : (s : State) (x : Eject) → HoldsIn K I s → HoldsIn K I (eject s x).state
+  pub puts : (s : State) (t c flags : ℕ) → HoldsIn K I s → HoldsIn K I (put s t c flags).state
+  pub settled : (v : WorldState) (s : State) (t c : ℕ) → (s.world.ejected ≡ None → v.ejected ≡ None) → I v → HoldsIn K I s → HoldsIn K I (insert_or_put v.call.insert s t c).state
   pub left : (w : WorldState) (t : ℕ) → I w → I (after_leave w t)
   pub brings : (o : Option ℕ) (w : WorldState) (c : ℕ) → I w → I (brought o w c)
   pub parked : (w : WorldState) (t : ℕ) → I w → I (put_parked w t)
@@ -112,14 +131,15 @@ pub record IsKeptBySmallSteps (p : PolicyState) (I : WorldState → Type 0) : Ty
   pub stopped : (w : WorldState) (c t : ℕ) → I w → I (after_stop w c t)
   pub charged : (w : WorldState) (t : ℕ) → I w → I (after_charge w t)
   pub caught_up : (w : WorldState) (t : ℕ) → I w → I (after_catch_up w t)
-  pub cycles : KeepsAnyCycle I
+  pub cycled : (w : WorldState) (o : Option ℕ) → I w → I (with_cycling w o)
+  pub passes : (w : WorldState) (o : Option ℕ) (x : Passing) → I w → I (record w { cycling = o; passing = x })
   pub woken : (w : WorldState) (t : ℕ) → I w → I (after_wake w t)
   pub asleep : (w : WorldState) (t : ℕ) → I w → I (after_sleep w t)
   pub ticked : (w : WorldState) (t : ℕ) → I w → I (after_tick w t)
   pub used : (w : WorldState) (t : ℕ) → I w → I (used_ms w t)
   pub let_off : (w : WorldState) (t : ℕ) → I w → I (let_go w t)
   pub begun : (w : WorldState) → I w → I (begun_periods (later w))
-  pub reweighed : (w : WorldState) (g x : ℕ) → I w → I (after_reweigh w g x)
+  pub reweighed : W → (w : WorldState) (g x : ℕ) → I w → I (after_reweigh w g x)
   pub fronted : (w : WorldState) (t c : ℕ) → I w → I (after_enter w t (to_front c))
   pub runs : (w : WorldState) (c t : ℕ) → I w → I (after_run w c t)
   pub lengthened : (w : WorldState) (t : ℕ) → I w → I (after_switch w t)
@@ -131,14 +151,18 @@ pub record IsKeptBySmallSteps (p : PolicyState) (I : WorldState → Type 0) : Ty
   pub unkicked : (w : WorldState) (c : ℕ) → I w → I (without_kick w c)
   pub counted : (w : WorldState) (b : Bool) → I w → I (record w { call = record w.call { has_moved = b } })
   pub unstarted : (w : WorldState) (n : ℕ) → I w → I (with_timer w n None)
-  pub weighed : (w : WorldState) (t x : ℕ) → I w → I (after_own_weight w t x)
+  pub weighed : W → (w : WorldState) (t x : ℕ) → I w → I (after_own_weight w t x)
 
-module _ (old : PolicyState) (I : WorldState → Type 0) (k : IsKeptBySmallSteps old I) where
+-- so it is under that policy, whatever its maps are
+abbrev pub IsKeptBySmallSteps : PolicyState → (WorldState → Type 0) → Type 0
+IsKeptBySmallSteps p I = IsKeptByAll (Unit {0}) (IsPolicy p) I
+
+module _ (W : Type 0) (K : PolicyState → Maps → Type 0) (I : WorldState → Type 0) (k : IsKeptByAll W K I) where
   abbrev Kept : State → Type 0
-  Kept s = IsKeptIn old I s
+  Kept s = HoldsIn K I s
 
   abbrev Leaves : Stepped → Type 0
-  Leaves r = IsKeptIn old I r.state
+  Leaves r = HoldsIn K I r.state
 
   -- ---- local queues
 
@@ -361,7 +385,7 @@ module _ (old : PolicyState) (I : WorldState → Type 0) (k : IsKeptBySmallSteps
   walk_look s c p ran h = keeps_if Leaves (is_ejected s) (builtin_cycle s c p ran) (seek s c p ran) (walk_builtin_cycle s c p ran h) (walk_seek s c p ran h)
 
   walk_cycling : (s : State) (o : Option ℕ) → Kept s → Kept (cycling s o)
-  walk_cycling s o h = (h.0, kept_cycling I (λ w p claimed x wakes i. k.cycles w p claimed x i) s.world o h.1)
+  walk_cycling s o h = (h.0, k.cycled s.world o h.1)
 
   -- a processor that falls idle
   walk_idle_or_anew : (s : State) (c : ℕ) → Kept s → Leaves (idle_or_anew s c)
@@ -374,7 +398,7 @@ module _ (old : PolicyState) (I : WorldState → Type 0) (k : IsKeptBySmallSteps
   unfolding becomes_idle
   walk_becomes_idle s c h =
       let u = with_world s (out_of_cycle s.world) in
-      walk_idle_or_anew (tells_idle u c 1).state c (walk_tells_idle u c 1 (h.0, k.cycles s.world None s.world.claimed s.world.passing h.1))
+      walk_idle_or_anew (tells_idle u c 1).state c (walk_tells_idle u c 1 (h.0, k.passes s.world None s.world.passing h.1))
 
   walk_concluded : (s : State) (c : ℕ) (ran : Bool) → Kept s → Leaves (concluded s c ran)
   unfolding concluded
@@ -391,7 +415,7 @@ module _ (old : PolicyState) (I : WorldState → Type 0) (k : IsKeptBySmallSteps
 
   -- from which processor a task is woken
   walk_waker : (s : State) (o : Option ℕ) → Kept s → Kept (with_world s (with_waker s.world o))
-  walk_waker s o h = (h.0, k.cycles s.world s.world.cycling s.world.claimed (record s.world.passing { waker = o }) h.1)
+  walk_waker s o h = (h.0, k.passes s.world s.world.cycling (record s.world.passing { waker = o }) h.1)
 
   walk_target : (s : State) (c : ℕ) → Kept s → Leaves (wake_target s c)
   unfolding wake_target
@@ -478,7 +502,7 @@ module _ (old : PolicyState) (I : WorldState → Type 0) (k : IsKeptBySmallSteps
 
   walk_told : (s : State) (t : ℕ) → Kept s → Kept (told_of_sleep s t)
   unfolding told_of_sleep
-  walk_told s t h = keeps_if Kept (is_by_linux s) (with_world s (with_slept s.world t)) s (h.0, k.cycles s.world s.world.cycling s.world.claimed (record s.world.passing { slept = Some t }) h.1) h
+  walk_told s t h = keeps_if Kept (is_by_linux s) (with_world s (with_slept s.world t)) s (h.0, k.passes s.world s.world.cycling (record s.world.passing { slept = Some t }) h.1) h
 
   walk_falls_asleep : (s : State) (t c : ℕ) → Kept s → Leaves (falls_asleep s t c)
   unfolding falls_asleep
@@ -488,11 +512,16 @@ module _ (old : PolicyState) (I : WorldState → Type 0) (k : IsKeptBySmallSteps
   unfolding looks_after_sleep
   walk_looks_after_sleep s t c h = walk_cycle (told_of_sleep s t) c None true (walk_told s t h)
 
+  walk_switch : (w : WorldState) (c : ℕ) → I w → I (with_switch w c)
+  walk_switch w c h =
+      let x : Passing = record w.passing { switching = switch_at w c } in
+      keeps_if I (world.is_by_linux w) (record w { passing = x }) w (k.passes w w.cycling x h) h
+
   walk_leaves_cpu : (s : State) (c t n : ℕ) → Kept s → Leaves (leaves_cpu s c t n)
   unfolding leaves_cpu
   walk_leaves_cpu s c t n h =
       let w = with_switch s.world c in
-      walk_stopping (with_world s (after_stop w c t)) c t n (h.0, k.stopped w c t (kept_switch I (λ v o claimed x wakes i. k.cycles v o claimed x i) s.world c h.1))
+      walk_stopping (with_world s (after_stop w c t)) c t n (h.0, k.stopped w c t (walk_switch s.world c h.1))
 
   walk_sleep_from_cpu : (s : State) (t c : ℕ) → Kept s → Leaves (sleep_from_cpu s t c)
   unfolding sleep_from_cpu
@@ -582,7 +611,7 @@ module _ (old : PolicyState) (I : WorldState → Type 0) (k : IsKeptBySmallSteps
 
   -- timers that are due
   walk_hand : (s : State) (o : Option ℕ) → Kept s → Kept (with_world s (with_timer_at_hand s.world o))
-  walk_hand s o h = (h.0, k.cycles s.world s.world.cycling s.world.claimed (record s.world.passing { timer = o }) h.1)
+  walk_hand s o h = (h.0, k.passes s.world s.world.cycling (record s.world.passing { timer = o }) h.1)
 
   walk_fires : (o : Option Alarm) (s : State) (n : ℕ) → Kept s → Leaves (fires o s n)
   walk_fires None s n h = h
@@ -614,58 +643,58 @@ module _ (old : PolicyState) (I : WorldState → Type 0) (k : IsKeptBySmallSteps
       walk_timers (let_all_go u).state (walk_let_go_from (len_of u.world.queues parked_queue) u (front_of u.world.queues parked_queue) (h.0, k.begun s.world h.1))
 
   -- a task's own weight
-  walk_takes_weight : (s : State) (t c x : ℕ) → Kept s → Leaves (takes_weight s t c x)
+  walk_takes_weight : W → (s : State) (t c x : ℕ) → Kept s → Leaves (takes_weight s t c x)
   unfolding takes_weight
-  walk_takes_weight s t c x h = walk_called (with_world s (after_own_weight s.world t x)) callback.SetWeight (task_and_number t x) t c refl (h.0, k.weighed s.world t x h.1)
+  walk_takes_weight may s t c x h = walk_called (with_world s (after_own_weight s.world t x)) callback.SetWeight (task_and_number t x) t c refl (h.0, k.weighed may s.world t x h.1)
 
-  walk_changes_weight : (s : State) (t c x : ℕ) → Kept s → Leaves (changes_weight s t c x)
+  walk_changes_weight : W → (s : State) (t c x : ℕ) → Kept s → Leaves (changes_weight s t c x)
   unfolding changes_weight
-  walk_changes_weight s t c x h =
+  walk_changes_weight may s t c x h =
       let q = call_by_linux s callback.Quiescent (task_and_number t change_flags) t c in
       let u = takes_weight q.state t c x in
       walk_called u.state callback.Runnable (task_and_number t restore_flag) t c refl
-      (walk_takes_weight q.state t c x (walk_called s callback.Quiescent (task_and_number t change_flags) t c refl h))
+      (walk_takes_weight may q.state t c x (walk_called s callback.Quiescent (task_and_number t change_flags) t c refl h))
 
-  walk_reweigh_running : (s : State) (t c x : ℕ) → Kept s → Leaves (reweigh_running s t c x)
+  walk_reweigh_running : W → (s : State) (t c x : ℕ) → Kept s → Leaves (reweigh_running s t c x)
   unfolding reweigh_running
-  walk_reweigh_running s t c x h =
+  walk_reweigh_running may s t c x h =
       let a = call_by_linux s callback.Stopping (task_and_number t 0) t c in
       let b = changes_weight a.state t c x in
       walk_called b.state callback.Running (one_task t) t c refl
-      (walk_changes_weight a.state t c x (walk_called s callback.Stopping (task_and_number t 0) t c refl h))
+      (walk_changes_weight may a.state t c x (walk_called s callback.Stopping (task_and_number t 0) t c refl h))
 
-  walk_reweigh_waiting : (s : State) (t c x : ℕ) → Kept s → Leaves (reweigh_waiting s t c x)
+  walk_reweigh_waiting : W → (s : State) (t c x : ℕ) → Kept s → Leaves (reweigh_waiting s t c x)
   unfolding reweigh_waiting
-  walk_reweigh_waiting s t c x h =
+  walk_reweigh_waiting may s t c x h =
       let a = leaves_queue s t c change_flags in
       let b = changes_weight a.state t c x in
-      k.puts b.state t c 0 (walk_changes_weight a.state t c x (walk_leaves_queue s t c change_flags h))
+      k.puts b.state t c 0 (walk_changes_weight may a.state t c x (walk_leaves_queue s t c change_flags h))
 
-  walk_reweigh_off_cpu : (s : State) (t c x : ℕ) → Kept s → Leaves (reweigh_off_cpu s t c x)
+  walk_reweigh_off_cpu : W → (s : State) (t c x : ℕ) → Kept s → Leaves (reweigh_off_cpu s t c x)
   unfolding reweigh_off_cpu
-  walk_reweigh_off_cpu s t c x h = keeps_if Leaves (waits s.world t) (reweigh_waiting s t c x) (takes_weight s t c x) (walk_reweigh_waiting s t c x h) (walk_takes_weight s t c x h)
+  walk_reweigh_off_cpu may s t c x h = keeps_if Leaves (waits s.world t) (reweigh_waiting s t c x) (takes_weight s t c x) (walk_reweigh_waiting may s t c x h) (walk_takes_weight may s t c x h)
 
-  walk_reweigh_at : (o : Option ℕ) (s : State) (t x : ℕ) → Kept s → Leaves (reweigh_at o s t x)
-  walk_reweigh_at None s t x h = walk_reweigh_off_cpu s t (task_at s.world t).prev_cpu x h
-  walk_reweigh_at (Some c) s t x h = walk_reweigh_running s t c x h
+  walk_reweigh_at : W → (o : Option ℕ) (s : State) (t x : ℕ) → Kept s → Leaves (reweigh_at o s t x)
+  walk_reweigh_at may None s t x h = walk_reweigh_off_cpu may s t (task_at s.world t).prev_cpu x h
+  walk_reweigh_at may (Some c) s t x h = walk_reweigh_running may s t c x h
 
-  walk_reweigh_by_linux : (s : State) (t x : ℕ) → Kept s → Leaves (reweigh_by_linux s t x)
+  walk_reweigh_by_linux : W → (s : State) (t x : ℕ) → Kept s → Leaves (reweigh_by_linux s t x)
   unfolding reweigh_by_linux
-  walk_reweigh_by_linux s t x h =
+  walk_reweigh_by_linux may s t x h =
       let u = with_world s (with_waker s.world (Some 0)) in
-      walk_waker (reweigh_at (cpu_of s.world t) u t x).state None (walk_reweigh_at (cpu_of s.world t) u t x (walk_waker s (Some 0) h))
+      walk_waker (reweigh_at (cpu_of s.world t) u t x).state None (walk_reweigh_at may (cpu_of s.world t) u t x (walk_waker s (Some 0) h))
 
-  walk_reweigh : (s : State) (t x : ℕ) → Kept s → Leaves (reweigh s t x)
+  walk_reweigh : W → (s : State) (t x : ℕ) → Kept s → Leaves (reweigh s t x)
   unfolding reweigh
-  walk_reweigh s t x h = keeps_if Leaves (is_by_linux s) (reweigh_by_linux s t x) (stays (with_world s (after_own_weight s.world t x))) (walk_reweigh_by_linux s t x h) (h.0, k.weighed s.world t x h.1)
+  walk_reweigh may s t x h = keeps_if Leaves (is_by_linux s) (reweigh_by_linux s t x) (stays (with_world s (after_own_weight s.world t x))) (walk_reweigh_by_linux may s t x h) (h.0, k.weighed may s.world t x h.1)
 
-  walk_own : (s : State) (e : Event) → Kept s → Leaves (own_step s e)
-  walk_own s (Wake t) h = walk_wake s t h
-  walk_own s (Sleep t) h = walk_sleep s t h
-  walk_own s (Tick c) h = walk_tick s c h
-  walk_own s Clock h = walk_clock s h
-  walk_own s (SetWeight g x) h = (h.0, k.reweighed s.world g x h.1)
-  walk_own s (SetTaskWeight t x) h = walk_reweigh s t x h
+  walk_own : (s : State) (e : Event) → (IsWeighing e → W) → Kept s → Leaves (own_step s e)
+  walk_own s (Wake t) may h = walk_wake s t h
+  walk_own s (Sleep t) may h = walk_sleep s t h
+  walk_own s (Tick c) may h = walk_tick s c h
+  walk_own s Clock may h = walk_clock s h
+  walk_own s (SetWeight g x) may h = (h.0, k.reweighed (may tt) s.world g x h.1)
+  walk_own s (SetTaskWeight t x) may h = walk_reweigh (may tt) s t x h
 
   -- ---- rounds
 
@@ -698,18 +727,23 @@ module _ (old : PolicyState) (I : WorldState → Type 0) (k : IsKeptBySmallSteps
   unfolding with_rounds
   walk_with_rounds r h = keeps_if Leaves (is_by_linux r.state) (one_after_other r (rounds most_rounds r.state)) r (walk_rounds most_rounds r.state h) h
 
-  walk_event : (s : State) (e : Event) → Kept s → Leaves (event_step s e)
-  walk_event s e h = walk_with_rounds (own_step s e) (walk_own s e h)
+  walk_event : (s : State) (e : Event) → (IsWeighing e → W) → Kept s → Leaves (event_step s e)
+  walk_event s e may h = walk_with_rounds (own_step s e) (walk_own s e may h)
 
   -- an event keeps it, whether it is accepted or not
-  pub walk_after : (s : SimState) (e : Event) → Kept s.state → Kept (after_event s e).state
-  walk_after s e h = go (refusal s e)
+  pub walk_one : (s : SimState) (e : Event) → (IsWeighing e → W) → Kept s.state → Kept (after_event s e).state
+  walk_one s e may h = go (refusal s e)
     where
       go : (o : Option Refused) → Kept (stepped_if o s e).state
-      go None = walk_event s.state e h
+      go None = walk_event s.state e may h
       go (Some r) = h
 
+module _ (old : PolicyState) (I : WorldState → Type 0) (k : IsKeptBySmallSteps old I) where
+  -- an event keeps the property under one policy, whether it is accepted or not
+  pub walk_after : (s : SimState) (e : Event) → IsKeptIn old I s.state → IsKeptIn old I (after_event s e).state
+  walk_after s e h = walk_one (Unit {0}) (IsPolicy old) I k s e (λ x. tt) h
+
   -- and so do several
-  pub walk_all : (s : SimState) (events : List Event) → Kept s.state → Kept (stepped_all s events).state
+  pub walk_all : (s : SimState) (events : List Event) → IsKeptIn old I s.state → IsKeptIn old I (stepped_all s events).state
   walk_all s [] h = h
   walk_all s (e ∷ es) h = walk_all (after_event s e) es (walk_after s e h)

@@ -46,7 +46,7 @@ use Rattle.scx_explore_states.specs.Rows.{waiting_key}
 use Rattle.scx_explore_findings.specs.FifoOnly.{is_by_vtime, inserts_by_vtime, InsertsInOrder, InsertInOrder, IsFifo, WaitsInOrder, AreInOrder, WantsOrder, IsInOrder, NobodyWaitsByVtime}
 use Rattle.scx_explore_findings.proofs.Helpers.{by_helper}
 use Rattle.scx_explore_findings.proofs.Queries.{MayAskAt, run_keeps}
-use Rattle.scx_explore_findings.proofs.EventWalk.{eject_policy, IsKeptBySmallSteps, walk_all}
+use Rattle.scx_explore_findings.proofs.EventWalk.{cycled_anyhow, eject_policy, IsKeptBySmallSteps, walk_all}
 
 -- ---- queues
 
@@ -209,7 +209,7 @@ helped w f a fine h = by_helper (λ (g : Helper). is_by_vtime (Some g) ≡ false
   kicked = λ c. h;
   preempted = λ c. h;
   timed = λ n o. h;
-  drawn = h;
+  drawn = λ may. h;
 }) f fine a
 
 -- a query that inserts no task by a virtual time
@@ -305,7 +305,7 @@ module _ (p : PolicyState) (may : InsertInOrder p) where
   order_settled None s t c f h = order_puts s t c 1 h
   order_settled (Some i) s t c f h = order_enters s t (for_cpu c i) f h
 
-  order_steps : IsKeptBySmallSteps p IsInOrder
+  pub order_steps : IsKeptBySmallSteps p IsInOrder
   order_steps = record {
     called_back = λ s b a t c barred h. order_call_back s b a t c h;
     ejected = λ s x h. order_eject s x h;
@@ -319,14 +319,15 @@ module _ (p : PolicyState) (may : InsertInOrder p) where
     stopped = λ w c t h. h;
     charged = λ w t h. h;
     caught_up = λ w t h. h;
-    cycles = λ w o claimed x h. h;
+    cycled = cycled_anyhow IsInOrder (λ w o claimed x h. h);
+    passes = λ w o x h. h;
     woken = λ w t h. h;
     asleep = order_asleep;
     ticked = λ w t h. h;
     used = order_used;
     let_off = λ w t h. order_left (with_task w t (with_since (task_at w t) (Some w.clock))) t h;
     begun = λ w h. h;
-    reweighed = order_reweighed;
+    reweighed = λ may. order_reweighed;
     fronted = λ w t c h. order_entered w t (to_front c) (λ none. tt) h;
     runs = order_run;
     lengthened = λ w t h. h;
@@ -338,7 +339,7 @@ module _ (p : PolicyState) (may : InsertInOrder p) where
     unkicked = λ w c h. h;
     counted = λ w b h. h;
     unstarted = λ w n h. h;
-    weighed = order_weighed;
+    weighed = λ may. order_weighed;
   }
 
 key_is : (r : Rank) → IsFifo r → key_of r ≡ 0
@@ -346,7 +347,7 @@ key_is Fifo f = refl
 key_is Front f = refl
 key_is (Vtime n) f = absurd f
 
-waiting_is : (o : Option Entry) → WaitsInOrder o → waiting_key o ≡ 0
+pub waiting_is : (o : Option Entry) → WaitsInOrder o → waiting_key o ≡ 0
 waiting_is None f = refl
 waiting_is (Some e) f = key_is e.rank f
 

@@ -55,7 +55,7 @@ pub record HoldsAfter (may : Helper → Type 0) (P : WorldState → Type 0) (w :
   pub kicked : (c : ℕ) → P (with_kick w c)
   pub preempted : (c : ℕ) → P (with_preemption w c)
   pub timed : (n : ℕ) (o : Option Alarm) → P (with_timer w n o)
-  pub drawn : P (after_random w)
+  pub drawn : may PrandomU32 → P (after_random w)
 
 module _ (may : Helper → Type 0) (P : WorldState → Type 0) (w : WorldState) (h : HoldsAfter may P w) where
   tried : (o : Option Fault) (t : Option ℕ) (i : Insert) → P (insert_or_fault w None t i) → P (insert_or_fault w o t i)
@@ -115,7 +115,7 @@ module _ (may : Helper → Type 0) (P : WorldState → Type 0) (w : WorldState) 
   by_helper TimerCancel m a =
       let n = given_number a 0 in
       or_done (timer_fault w n) (if is_this n w.passing.timer then w else with_timer w n None) (keeps_if P (is_this n w.passing.timer) w (with_timer w n None) h.same (h.timed n None))
-  by_helper PrandomU32 m a = h.drawn
+  by_helper PrandomU32 m a = h.drawn m
   by_helper MayRun m a = keeps_if P (nat_lt (given_number a 1) (length w.cpus)) w (with_fault w NoSuchCpu) h.same (h.faulty NoSuchCpu)
   by_helper f m a = h.same
 

@@ -35,8 +35,26 @@ pub mod OrderTold
 pub mod PlacesTold
 pub mod CpusTold
 pub mod TasksTold
-mod Between
-mod QueueWalk
+pub mod MapsTold
+pub mod MapWalk
+pub mod KeysTold
+pub mod RunsTold
+pub mod Between
+pub mod RandomWalk
+pub mod Tidying
+pub mod DelayedTasks
+pub mod DelayedWorlds
+pub mod DelayedHelpers
+pub mod DelayedRuns
+pub mod DelayedSteps
+pub mod DelayedCycles
+pub mod DelayedEvents
+pub mod DelayedMachines
+pub mod UnusedGroups
+pub mod SameTold
+pub mod QueueWalk
+pub mod Led
+pub mod FirstLed
 mod Ending
 mod Running
 mod IdleCpus

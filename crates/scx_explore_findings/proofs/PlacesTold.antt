@@ -50,12 +50,12 @@ numbers_tell_queues ids p q lp lq e = sym (queue_is ids p lp) ∙ (ap (λ (i : �
 -- ---- places
 
 -- a processor is one of sixteen
-abbrev IsSmall : Option ℕ → Type 0
+abbrev pub IsSmall : Option ℕ → Type 0
 IsSmall None = Unit {0}
 IsSmall (Some c) = c < 16
 
 -- a task that waits does so in a queue with a number
-abbrev IsKnown : List ℕ → Option Entry → Type 0
+abbrev pub IsKnown : List ℕ → Option Entry → Type 0
 IsKnown ids None = Unit {0}
 IsKnown ids (Some e) = number_in ids e.queue < length ids
 

@@ -45,7 +45,7 @@ use Rattle.scx_sched_machine.proofs.Choices.{keeps_if}
 use Rattle.scx_explore_findings.specs.Between.{EventsKeepQueuesSound}
 use Rattle.scx_explore_findings.proofs.Helpers.{by_helper}
 use Rattle.scx_explore_findings.proofs.Queries.{IsAllowed, stores_allowed, asks_allowed, run_keeps}
-use Rattle.scx_explore_findings.proofs.EventWalk.{IsKeptBySmallSteps, eject_policy, call_back_policy, put_policy, settled_policy, walk_after}
+use Rattle.scx_explore_findings.proofs.EventWalk.{cycled_anyhow, IsKeptBySmallSteps, eject_policy, call_back_policy, put_policy, settled_policy, walk_after}
 
 apart : (b : Bool) → b ≡ true → b ≡ false → ⊥
 apart b x y = absurd (cc)
@@ -123,7 +123,7 @@ module _ (Q : QueueState → Type 0) (k : IsKeptByQueues Q) where
   of_weighed : (w : WorldState) (t x : ℕ) → Of w → Of (after_own_weight w t x)
   of_weighed w t x h = keeps_if Of (is_none (own_weight_fault w.tree t x)) (with_tree w (with_own_weight w.tree t x)) w h h
 
-  of_claimed : (w : WorldState) (o : Option ℕ) → Of w → Of (after_claim w o)
+  pub of_claimed : (w : WorldState) (o : Option ℕ) → Of w → Of (after_claim w o)
   of_claimed w None h = h
   of_claimed w (Some c) h = keeps_if Of (is_by_linux w) _ w h h
 
@@ -155,11 +155,11 @@ module _ (Q : QueueState → Type 0) (k : IsKeptByQueues Q) where
   of_released w None i h = h
   of_released w (Some t) i h = of_entered (after_leave w t) t i (removed w.queues t h)
 
-  of_inserted : (w : WorldState) (o : Option Fault) (t : Option ℕ) (i : Insert) → Of w → Of (insert_or_fault w o t i)
+  pub of_inserted : (w : WorldState) (o : Option Fault) (t : Option ℕ) (i : Insert) → Of w → Of (insert_or_fault w o t i)
   of_inserted w None t i h = keeps_if Of (is_dispatch w.call.callback) (after_release w t (for_cpu w.call.cpu i)) (with_insert w i) (of_released w t (for_cpu w.call.cpu i) h) h
   of_inserted w (Some f) t i h = h
 
-  of_moved : (w : WorldState) (o : Option ℕ) → Of w → Of (moved_to_local w o)
+  pub of_moved : (w : WorldState) (o : Option ℕ) → Of w → Of (moved_to_local w o)
   of_moved w None h = h
   of_moved w (Some t) h = of_local (after_leave w t) w.call.cpu t (removed w.queues t h)
 
@@ -177,7 +177,7 @@ module _ (Q : QueueState → Type 0) (k : IsKeptByQueues Q) where
     kicked = λ c. h;
     preempted = λ c. h;
     timed = λ n o. h;
-    drawn = h;
+    drawn = λ may. h;
   }) f free a
 
   of_query : (e : Callback) → is_allowed CreateDsq e ≡ false → (w : WorldState) (q : Query) → IsAllowed e q → Of w → Of (after_query world_functions w q)
@@ -248,14 +248,15 @@ module _ (Q : QueueState → Type 0) (k : IsKeptByQueues Q) where
     stopped = λ w c t h. h;
     charged = λ w t h. h;
     caught_up = λ w t h. h;
-    cycles = λ w o claimed x h. h;
+    cycled = cycled_anyhow Of (λ w o claimed x h. h);
+    passes = λ w o x h. h;
     woken = λ w t h. h;
     asleep = of_asleep;
     ticked = λ w t h. h;
     used = of_used;
     let_off = λ w t h. removed w.queues t h;
     begun = λ w h. h;
-    reweighed = of_reweighed;
+    reweighed = λ may. of_reweighed;
     fronted = λ w t c h. of_entered w t (to_front c) h;
     runs = λ w c t h. removed w.queues t h;
     lengthened = λ w t h. h;
@@ -267,7 +268,7 @@ module _ (Q : QueueState → Type 0) (k : IsKeptByQueues Q) where
     unkicked = λ w c h. h;
     counted = λ w d h. h;
     unstarted = λ w n h. h;
-    weighed = of_weighed;
+    weighed = λ may. of_weighed;
   }
 
 -- ---- sound queues
@@ -286,7 +287,7 @@ sound_pushed s id t r h = go (exists s id) (is_some (entry_of s t)) (list_any (c
     go true true c e f = h
     go false b c e f = h
 
-sound_queues : IsKeptByQueues IsSound
+pub sound_queues : IsKeptByQueues IsSound
 sound_queues = record { pushed = sound_pushed; gone = sound_without_task }
 
 -- an event keeps queues sound, whether it is accepted or not

@@ -12,7 +12,7 @@ use Rattle.scx_explore_findings.specs.Path.{IsAs}
 use Rattle.scx_explore_findings.proofs.WorldSizes.{HasSize, like_sized}
 use Rattle.scx_explore_findings.proofs.EventSizes.{sized_after}
 
-sized_like : (v w : WorldState) → IsLike v w → HasSize v w
+pub sized_like : (v w : WorldState) → IsLike v w → HasSize v w
 sized_like v w h = (h.tasks, h.cpus, h.room, h.queues, h.groups, h.timers)
 
 -- a machine is as itself

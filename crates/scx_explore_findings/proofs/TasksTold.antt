@@ -2,11 +2,7 @@
 use Rattle.std.proofs.Common.{◌≡◌, ℕ, suc, ◌-◌, ◌<◌, ◌≤◌, Bool, true, false, List, [], ◌∷◌, length, get_or, Option, Some, None, is_some, refl, sym, ap, ◌∙◌, subst, arith}
 use Rattle.scx_sched_tasks.specs.declared.task.Task.{Task}
 use Rattle.scx_sched_tasks.specs.Waits.{time_since}
-
--- it began to wait at that clock or before
-abbrev pub IsSince : ℕ → Option ℕ → Type 0
-IsSince now None = Unit {0}
-IsSince now (Some n) = n ≤ now
+use Rattle.scx_explore_findings.specs.WholeForms.{IsSince}
 
 -- true is so
 abbrev IsSo : Bool → Type 0

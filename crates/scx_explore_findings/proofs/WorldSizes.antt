@@ -219,7 +219,7 @@ module _ (v : WorldState) where
     kicked = λ c. h;
     preempted = λ c. h;
     timed = λ n o. (h.0, h.1, h.2, h.3, h.4, h.5 ∙ sym (length-set w.timers n o));
-    drawn = h;
+    drawn = λ may. h;
   }) f free a
 
   -- what a program asks in a callback that may create no queue

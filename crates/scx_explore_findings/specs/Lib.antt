@@ -19,3 +19,5 @@ pub mod ReachedStates
 pub mod QueueOrder
 pub mod UnreadParts
 pub mod Between
+pub mod Delayed
+pub mod WholeForms

@@ -1,4 +1,5 @@
 ghost use Rattle.scx_explore_findings.specs.FifoOnly.{FirstStatesAreInOrder, NobodyWaitsByVtime};
+ghost use Rattle.scx_explore_findings.specs.Delayed.{EventsDontTellTimes};
 ghost use Rattle.scx_explore_findings.specs.Between.{EventsKeepQueuesSound, EventsLeaveNoNotes};
 ghost use Rattle.scx_explore_findings.specs.UnreadParts.{EventsReadNoSuchPart, ListsReadNoSuchPart, SuchPartsShowNothing};
 ghost use Rattle.scx_explore_findings.specs.ReachedStates.{SameMachinesShowTheSame, ReachedStatesGoAlike};
@@ -63,11 +64,14 @@ pub fn reached_states_go_alike()
 /// of groups where none has a quota, and the number of accepted events, while there is room for more. Under any policy, if
 /// two machines are the same but for these, an event is refused for the same cause, the same is noted, and they are so
 /// again after it; and after a list of events. Both show the same: the cause of an ejection, idle CPUs, and the words of
-/// a form that leaves out the number of pushes. The function does nothing: its contract is the law.
+/// a form that leaves out the number of pushes. And if all times of a machine are later by as much, and no program reads the
+/// clock, an event is refused for the same cause, and leads to the same machine, later; slices have to end exactly, and the
+/// periods of quotas to begin alike. The function does nothing: its contract is the law.
 pub fn unread_parts_change_nothing()
     ensures event { EventsReadNoSuchPart }
     ensures list { ListsReadNoSuchPart }
     ensures shown { SuchPartsShowNothing }
+    ensures times { EventsDontTellTimes }
 {}
 
 /// Between two events no note is left, and while the policy is in force the host tracks idle CPUs as it did; and queues are

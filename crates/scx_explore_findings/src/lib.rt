@@ -7,9 +7,10 @@
 //! runs. `replay` tells the first event of a list at which the policy is ejected. A `Pool` has machines that take over
 //! from one another.
 //!
-//! Four reductions of a search are laws about the machine, each the contract of a function that does nothing. If no
+//! Five reductions of a search are laws about the machine, each the contract of a function that does nothing. If no
 //! program loads run times or virtual times, or lists are too short for a stall, two machines that differ in these, or in
-//! how long tasks wait, show the same. If no program inserts by a virtual time, no task waits by one.
+//! how long tasks wait, show the same. If no program inserts by a virtual time, no task waits by one. If none reads the
+//! clock, no event depends on it.
 #![tactic(auto)]
 
 mod checks;

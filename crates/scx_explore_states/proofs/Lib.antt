@@ -2,4 +2,4 @@ mod Eight
 mod Placed
 mod Putting
 mod Spots
-mod Telling
+pub mod Telling

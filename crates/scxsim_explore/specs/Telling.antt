@@ -17,6 +17,7 @@ use Rattle.scx_explore_audit.specs.declared.table.Moves.{Moves}
 use Rattle.scx_explore_audit.specs.declared.table.Moves.TheVariants as moves
 use Rattle.scx_explore_audit.specs.Closed.{AreNumbersOf, Respects}
 use Rattle.scx_explore_audit.specs.Laws.{NoneIn}
+use Rattle.scx_explore_audit.specs.Whole.{NeedsNoPremise}
 use Rattle.scx_explore_workloads.specs.Files.{IsFileOf}
 use Rattle.scx_explore.specs.declared.starts.Starts.{Starts}
 use Rattle.scx_explore_bounds.specs.Forms.{IsFormOf}
@@ -88,6 +89,8 @@ pub record IsSure
   pub few :
       room ≤ most_events b (length first.state.world.tasks) (length first.state.world.cpus)
   pub none : IsSureBy form moves limit sorts first room
+  -- of a form that keeps everything nothing is presumed, by plain rules
+  pub whole : NeedsNoPremise form moves limit sorts first room
 
 -- The summary may only say that states were audited if the lists of its lines are all lists of such
 -- moves, and if it is sure that none of these shows anything of their sorts. It says nothing of

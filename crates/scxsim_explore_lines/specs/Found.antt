@@ -1,6 +1,6 @@
 -- The text of a list of events in which something was found: what it is, the events, their trace,
 -- and the workload file that begins with them.
-use Rattle.std.specs.Prelude.{ℕ, ◌+◌, List, [], ◌∷◌, ◌++◌, length, Bool, true, false, Option, Some, None, codes, decimal, flat_map}
+use Rattle.std.specs.Prelude.{ℕ, ◌+◌, nat_eq, if◌then◌else◌, List, [], ◌∷◌, ◌++◌, length, Bool, true, false, Option, Some, None, codes, decimal, flat_map}
 use Rattle.std.specs.Fmt.{signed_decimal}
 use Rattle.scx_isa_semantics.specs.declared.callbacks.Callback.{Callback}
 use Rattle.scx_isa_semantics.specs.Callbacks.{callback_name}
@@ -76,14 +76,14 @@ length_in mode.Milliseconds es = ms_begun es true
 length_in mode.Workloads es = ms_begun es true
 
 -- the unit of a length, and the end of its line
-abbrev pub unit : Mode → List ℕ
-unit mode.Events = codes " events\n"
-unit mode.Milliseconds = codes " ms\n"
-unit mode.Workloads = codes " ms\n"
+abbrev pub unit : Mode → ℕ → List ℕ
+unit mode.Events n = if nat_eq n 1 then codes " event\n" else codes " events\n"
+unit mode.Milliseconds n = codes " ms\n"
+unit mode.Workloads n = codes " ms\n"
 
 -- the line of what was found in a list of that length
 abbrev pub found_line : NameLists → Finding → Mode → ℕ → List ℕ
-found_line x f m depth = finding_words x f ++ (codes " after " ++ decimal depth ++ unit m)
+found_line x f m depth = finding_words x f ++ (codes " after " ++ decimal depth ++ unit m depth)
 
 -- ---- the list
 

@@ -75,14 +75,16 @@ fn write_found<W: Out>(
     ensures failures { Counts result (W.failure_count out.old) (W.failure_count out.new) }
 {
     write_finding(about, finding, out)?;
-    write_number(out, " after ", length_in(mode, events) as u64, unit(mode))
+    let length = length_in(mode, events);
+    write_number(out, " after ", length as u64, unit(mode, length))
 }
 
 /// The unit of a length, and the end of its line.
-fn unit(mode: Mode) -> &'static str
-    ensures { result.now ≡ unit mode }
+fn unit(mode: Mode, length: usize) -> &'static str
+    ensures { result.now ≡ unit mode length }
 {
     match mode {
+        Mode::Events if length == 1 => " event\n",
         Mode::Events => " events\n",
         Mode::Milliseconds | Mode::Workloads => " ms\n",
     }

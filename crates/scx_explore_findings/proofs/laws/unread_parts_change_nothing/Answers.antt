@@ -1,3 +1,4 @@
+use Rattle.scx_explore_findings.proofs.DelayedMachines.{events_dont_tell_times}
 use Rattle.scx_explore_findings.proofs.SameMachines.{events_read_no_such_part, lists_read_no_such_part}
 use Rattle.scx_explore_findings.proofs.SameShown.{such_parts_show_nothing}
 use Rattle.scx_explore_findings.proofs.laws.unread_parts_change_nothing.Goals as goal
@@ -10,3 +11,6 @@ returns-clause-list c = lists_read_no_such_part
 
 pub returns-clause-shown : goal.returns-clause-shown
 returns-clause-shown c = such_parts_show_nothing
+
+pub returns-clause-times : goal.returns-clause-times
+returns-clause-times c = events_dont_tell_times

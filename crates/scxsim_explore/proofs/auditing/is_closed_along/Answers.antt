@@ -5,5 +5,6 @@ pub returns : goal.returns
 returns c = λ is. record {
   room = c.args.path.now.room;
   few = c.is_within.ensures c.if-not-is_within.false;
+  whole = is_yes _ c.none_in_lists.result is c.none_in_lists.ensures.whole;
   none = (c.numbers.result.now, is_yes _ c.none_in_lists.result is c.none_in_lists.ensures.numbers, is_yes _ c.none_in_lists.result is c.none_in_lists.ensures.none);
 }

@@ -1,0 +1,412 @@
+-- Two machines that are written as the same words, by a form that keeps everything, are the same but for unread parts, once one is as late as the other.
+use Rattle.std.proofs.Common.{◌≡◌, ℕ, zero, suc, ◌+◌, ◌%◌, ◌<◌, ◌≤◌, ◌||◌, Bool, true, false, not, cond, List, [], ◌∷◌, length, map, drop, get_or, Option, Some, None, is_some, refl, sym, ap, ◌∙◌, subst, arith, ⊎_elim}
+use Rattle.std.specs.Prelude.{min, IfSome, option_map}
+use Rattle.std.proofs.lemmas.Bool.{cases_lt}
+use Rattle.std.proofs.lemmas.List.{length-append, ext_get_or}
+use Rattle.std.proofs.lemmas.List.Elements.{All-get_or}
+use Rattle.scx_dsq.specs.declared.entries.Entry.{Entry}
+use Rattle.scx_dsq.specs.Laws as queues
+use Rattle.scx_dsq.specs.Queues.{QueueState, entry_of}
+use Rattle.scx_maps.specs.declared.shape.Shape.{Shape}
+use Rattle.scx_weights.specs.declared.group.Group.{Group}
+use Rattle.scx_weights.specs.Hierarchy.{Hierarchy}
+use Rattle.scx_weights.specs.Limits.{has_quota, usage_of}
+use Rattle.scx_sched_tasks.specs.declared.task.Task.{Task}
+use Rattle.scx_sched_tasks.specs.Tasks.{no_task}
+use Rattle.scx_sched_tasks.specs.Waits.{time_since}
+use Rattle.scx_sched_world.specs.declared.notes.Note.{Note}
+use Rattle.scx_sched_world.specs.declared.timers.Alarm.{Alarm}
+use Rattle.scx_sched_world.specs.World.{WorldState, are_linux, nothing_passes, task_at, waits, waits_in, wait, is_this, cpu_of}
+use Rattle.scx_sched.specs.Once.{IsSound}
+use Rattle.scx_sched.specs.Ranges.{IsFresh}
+use Rattle.scx_sched.specs.Sim.{SimState}
+use Rattle.scx_explore_states.specs.declared.form.Form.{Form}
+use Rattle.scx_explore_states.specs.Rows.{kept, waiting_key, ahead_of, entries_of, place_of, is_idle}
+use Rattle.scx_explore_states.specs.Telling.{AreOfOneShape, IsKeptAlike, KeepTheSame, place_at}
+use Rattle.scx_explore_states.specs.Words.{most_queues, number_in}
+use Rattle.scx_explore_states.specs.Written.{used_words, AreKnown, IsWritten}
+use Rattle.scx_explore_states.proofs.Telling.{words_tell}
+use Rattle.scx_explore_findings.specs.Between.{IsQuiet}
+use Rattle.scx_explore_findings.specs.Delayed.{later_by, delayed_task, delayed_alarm, delayed_eject, delayed_note, delay_machine}
+use Rattle.scx_explore_findings.specs.QueueOrder.{place_in, leads, unnumbered, AreAsQueues}
+use Rattle.scx_explore_findings.specs.Hidden.{Hidden, unless, since_unless, hidden_in, all_hidden}
+use Rattle.scx_explore_findings.specs.HiddenMachines.{hide_machine}
+use Rattle.scx_explore_findings.specs.UnreadParts.{AreSame}
+use Rattle.scx_explore_findings.specs.FifoOnly.{InsertInOrder}
+use Rattle.scx_explore_findings.specs.WholeForms.{DrawNone, IsWhole, IsPlain, IsSince, IsTidy, AreMapsOf}
+use Rattle.scx_explore_findings.proofs.DelayedTasks.{as_long, found_at, as_late}
+use Rattle.scx_explore_findings.proofs.SameQueues.{queue_same}
+use Rattle.scx_explore_findings.proofs.OrderTold.{order_told}
+use Rattle.scx_explore_findings.proofs.PlacesTold.{IsSmall, IsKnown, place_tells_cpu, place_tells_entry}
+use Rattle.scx_explore_findings.proofs.CpusTold.{cpus_told}
+use Rattle.scx_explore_findings.proofs.TasksTold.{since_told, task_told}
+use Rattle.scx_explore_findings.proofs.MapsTold.{last_two}
+use Rattle.scx_explore_findings.proofs.KeysTold.{maps_told}
+use Rattle.scx_explore_findings.proofs.RunsTold.{cpu_there, run_once, runner_waits_not, runnable_told}
+use Rattle.scx_explore_findings.proofs.WorldSizes.{HasSize}
+
+-- what is known of a machine that events have led to from that one, while the policy is in force
+pub record IsSuited (shapes : List Shape) (root s : SimState) : Type 0 where
+  pub policy : s.state.policy ≡ root.state.policy
+  pub size : HasSize root.state.world s.state.world
+  pub sound : IsSound None s.state.world.cpus (length root.state.world.tasks) s.state.world
+  pub fresh : IsFresh s.state.world
+  pub timely : (t : ℕ) → wait s.state.world t ≤ 30000
+  pub still : s.state.world.cycling ≡ None
+  pub settled : s.state.world.passing ≡ nothing_passes
+  pub rules : s.state.world.rules ≡ root.state.world.rules
+  pub quiet : IsQuiet root.state.world.tracks_idle s.state.world
+  pub force : s.state.world.ejected ≡ None
+  pub tidy : IsTidy root.state.world.tree s.state.world
+  pub queues : queues.IsSound s.state.world.queues
+  pub maps : AreMapsOf shapes s.state.maps
+  pub random : DrawNone root.state.policy → s.state.world.random ≡ root.state.world.random
+  pub order : InsertInOrder root.state.policy → (k : ℕ) → waiting_key (entry_of s.state.world.queues k) ≡ 0
+
+-- ---- numbers
+
+-- true is so
+abbrev IsSo : Bool → Type 0
+IsSo true = Unit {0}
+IsSo false = ⊥
+
+false_isnt_so : false ≡ true → ⊥
+false_isnt_so e = subst IsSo (sym e) tt
+
+kept_is : (a b : Bool) (x y : ℕ) → a ≡ true → b ≡ true → kept a x ≡ kept b y → x ≡ y
+kept_is true true x y e f same = same
+kept_is true false x y e f same = absurd (false_isnt_so f)
+kept_is false b x y e f same = absurd (false_isnt_so e)
+
+unless_same : (b : Bool) (x y : ℕ) → (b ≡ false → x ≡ y) → unless b x ≡ unless b y
+unless_same true x y k = refl
+unless_same false x y k = k refl
+
+or_true : (a b : Bool) → a ≡ true → (a || b) ≡ true
+or_true true b e = refl
+or_true false b e = absurd (false_isnt_so e)
+
+min_is : (x y : ℕ) → x ≤ 30000 → y ≤ 30000 → min x 65535 ≡ min y 65535 → x ≡ y
+min_is x y l m e = omega (arith, l, m, e)
+
+home_is : (x y c d : ℕ) → x < c → c ≤ 16 → y < d → d ≤ 16 → x % 16 ≡ y % 16 → x ≡ y
+home_is x y c d l m k n e = omega (arith, l, m, k, n, e)
+
+below_eight : (u m : ℕ) → u < m → m ≤ 8 → u < 8
+below_eight u m l k = omega (arith, l, k)
+
+past : (u m : ℕ) → 8 ≤ u → m ≤ 8 → m ≤ u
+past u m l k = omega (arith, l, k)
+
+-- ---- lists
+
+-- the records of as many tasks that are the same one by one, without what is hidden
+hidden_told : (h : Hidden) (d : Task) (xs ys : List Task) → length xs ≡ length ys → ((t : ℕ) → t < length xs → hidden_in h (get_or xs t d) ≡ hidden_in h (get_or ys t d)) → all_hidden h xs ≡ all_hidden h ys
+hidden_told h d [] [] n e = refl
+hidden_told h d [] (y ∷ ys) n e = absurd (omega (arith, n))
+hidden_told h d (x ∷ xs) [] n e = absurd (omega (arith, n))
+hidden_told h d (x ∷ xs) (y ∷ ys) n e =
+    ap (λ (o : Task). o ∷ all_hidden h xs) (e 0 (omega arith)) ∙ ap (λ (l : List Task). hidden_in h y ∷ l) (hidden_told h d xs ys (omega (arith, n)) (λ t l. e (suc t) (omega (arith, l))))
+
+past_none : (es : List (Option Entry)) (u : ℕ) → length es ≤ u → get_or es u None ≡ None
+past_none [] u l = refl
+past_none (e ∷ es) zero l = absurd (omega (arith, l))
+past_none (e ∷ es) (suc u) l = past_none es u (omega (arith, l))
+
+no_timers : (xs ys : List (Option Alarm)) → length xs ≡ 0 → length ys ≡ 0 → xs ≡ ys
+no_timers [] [] n m = refl
+no_timers [] (y ∷ ys) n m = absurd (omega (arith, m))
+no_timers (x ∷ xs) ys n m = absurd (omega (arith, n))
+
+leads_past : (o : Option Entry) → leads o None ≡ false
+leads_past None = refl
+leads_past (Some p) = refl
+
+at_eight : (s : QueueState) (k : ℕ) → k < 8 → get_or (entry_of s 0 ∷ entry_of s 1 ∷ entry_of s 2 ∷ entry_of s 3 ∷ entry_of s 4 ∷ entry_of s 5 ∷ entry_of s 6 ∷ entry_of s 7 ∷ []) k None ≡ entry_of s k
+at_eight s zero l = refl
+at_eight s (suc zero) l = refl
+at_eight s (suc (suc zero)) l = refl
+at_eight s (suc (suc (suc zero))) l = refl
+at_eight s (suc (suc (suc (suc zero)))) l = refl
+at_eight s (suc (suc (suc (suc (suc zero))))) l = refl
+at_eight s (suc (suc (suc (suc (suc (suc zero)))))) l = refl
+at_eight s (suc (suc (suc (suc (suc (suc (suc zero))))))) l = refl
+at_eight s (suc (suc (suc (suc (suc (suc (suc (suc k)))))))) l = absurd (omega (arith, l))
+
+known_is : (ids : List ℕ) (o : Option Entry) → IfSome o (λ e. number_in ids e.queue < length ids) → IsKnown ids o
+known_is ids None k = tt
+known_is ids (Some e) k = k
+
+known_at : (ids : List ℕ) (w : WorldState) → AreKnown ids (entries_of w) → (k : ℕ) → k < 8 → IsKnown ids (entry_of w.queues k)
+known_at ids w known k l =
+    subst (IsKnown ids) (at_eight w.queues k l)
+    (known_is ids (get_or (entries_of w) k None) (All-get_or (λ o. IfSome o (λ e. number_in ids e.queue < length ids)) (entries_of w) k None l known))
+
+usages_long : (x y : Hierarchy) (n : ℕ) → length (used_words x n) ≡ length (used_words y n)
+usages_long x y zero = refl
+usages_long x y (suc n) =
+    omega (arith, usages_long x y n, length-append (used_words x n) (usage_of x n ∷ []), length-append (used_words y n) (usage_of y n ∷ []))
+
+usages_told : (x y : Hierarchy) (n : ℕ) → used_words x n ≡ used_words y n → (k : ℕ) → k < n → usage_of x k ≡ usage_of y k
+usages_told x y zero e k l = absurd (omega (arith, l))
+usages_told x y (suc n) e k l =
+    let two = last_two (used_words x n) (used_words y n) (usage_of x n) (usage_of y n) (usages_long x y n) e in
+    ⊎_elim (λ (less : k < n). usages_told x y n two.0 k less)
+    (λ (more : n ≤ k).
+    let is : n ≡ k = omega (arith, more, l) in
+    subst (λ (j : ℕ). usage_of x j ≡ usage_of y j) is two.1)
+    (cases_lt k n)
+
+quota_words : (b c : Bool) (xs ys : List ℕ) (n m : ℕ) → b ≡ true → c ≡ true → cond b (n ∷ xs) [] ≡ cond c (m ∷ ys) [] → xs ≡ ys
+quota_words true true xs ys n m e f same = ap (λ (l : List ℕ). drop 1 l) same
+quota_words true false xs ys n m e f same = absurd (false_isnt_so f)
+quota_words false c xs ys n m e f same = absurd (false_isnt_so e)
+
+quota_clock : (b c : Bool) (xs ys : List ℕ) (n m : ℕ) → b ≡ true → c ≡ true → cond b (n ∷ xs) [] ≡ cond c (m ∷ ys) [] → n ≡ m
+quota_clock true true xs ys n m e f same = ap (λ (l : List ℕ). get_or l 0 0) same
+quota_clock true false xs ys n m e f same = absurd (false_isnt_so f)
+quota_clock false c xs ys n m e f same = absurd (false_isnt_so e)
+
+still_since : (now d : ℕ) (o : Option ℕ) → IsSince now o → IsSince (now + d) (later_by d o)
+still_since now d None l = tt
+still_since now d (Some n) l = let k : n ≤ now = l in omega (arith, k)
+
+some_later : (d : ℕ) (o : Option ℕ) → is_some (later_by d o) ≡ is_some o
+some_later d None = refl
+some_later d (Some n) = refl
+
+-- ---- two machines
+
+module _ (shapes : List Shape) (root : SimState) (plain : IsPlain root) (f : Form) (ids xs : List ℕ) (whole : IsWhole root.state.policy f) (few : length ids ≤ most_queues) (s t : SimState) (hs : IsSuited shapes root s) (ht : IsSuited shapes root t) (is : IsWritten f ids xs s) (it : IsWritten f ids xs t) where
+  abbrev v : WorldState
+  v = s.state.world
+
+  abbrev w : WorldState
+  w = t.state.world
+
+  abbrev m : ℕ
+  m = length root.state.world.tasks
+
+  shape : AreOfOneShape v w
+  shape = record {
+    tasks = sym hs.size.0 ∙ ht.size.0;
+    cpus = sym hs.size.1 ∙ ht.size.1;
+    timers = sym hs.size.5 ∙ ht.size.5;
+    groups = sym hs.tidy.1.0.0 ∙ ht.tidy.1.0.0;
+    rules = hs.rules ∙ sym ht.rules;
+  }
+
+  told : KeepTheSame f ids s t
+  told = words_tell f ids xs s t whole.names few shape is it
+
+  each : (k : ℕ) → k < m → IsKeptAlike f ids v w k
+  each k l = told.tasks k (below_eight k m l plain.tasks) (subst (λ (j : ℕ). k < j) hs.size.0 l)
+
+  few_cpus : length v.cpus ≤ 16
+  few_cpus = subst (λ (j : ℕ). j ≤ 16) hs.size.1 plain.cpus
+
+  few_there : length w.cpus ≤ 16
+  few_there = subst (λ (j : ℕ). j ≤ 16) ht.size.1 plain.cpus
+
+  small : (x : WorldState) → length x.cpus ≤ 16 → (k : ℕ) → IsSmall (cpu_of x k)
+  small x most k = go (cpu_of x k) refl
+    where
+      go : (o : Option ℕ) → cpu_of x k ≡ o → IsSmall o
+      go None e = tt
+      go (Some c) e = let there = cpu_there k x.cpus c e in let l : c < 16 = omega (arith, there, most) in l
+
+  cpu_same : (k : ℕ) → k < m → cpu_of v k ≡ cpu_of w k
+  cpu_same k l = place_tells_cpu ids (cpu_of v k) (cpu_of w k) (entry_of v.queues k) (entry_of w.queues k) (small v few_cpus k) (small w few_there k) (each k l).place
+
+  cpus_same : v.cpus ≡ w.cpus
+  cpus_same = cpus_told m v.cpus w.cpus shape.cpus (run_once v hs.sound.once m hs.sound.flags) (run_once w ht.sound.once m ht.sound.flags) cpu_same
+
+  -- ---- queues
+
+  key_same : (k : ℕ) → k < m → waiting_key (entry_of v.queues k) ≡ waiting_key (entry_of w.queues k)
+  key_same k l =
+      ⊎_elim (λ (e : f.keys ≡ true). kept_is f.keys f.keys (waiting_key (entry_of v.queues k)) (waiting_key (entry_of w.queues k)) e e (each k l).key)
+      (λ (may : InsertInOrder root.state.policy). hs.order may k ∙ sym (ht.order may k)) whole.keys
+
+  place_same : (k : ℕ) → k < m → place_in v.queues k ≡ place_in w.queues k
+  place_same k l = go (cpu_of v k) refl
+    where
+      go : (o : Option ℕ) → cpu_of v k ≡ o → place_in v.queues k ≡ place_in w.queues k
+      go (Some c) e =
+          ap (λ (x : Option Entry). option_map unnumbered x) (runner_waits_not v hs.sound.once k c e)
+          ∙ sym (ap (λ (x : Option Entry). option_map unnumbered x) (runner_waits_not w ht.sound.once k c (sym (cpu_same k l) ∙ e)))
+      go None e =
+          let here = entry_of v.queues k in
+          let there = entry_of w.queues k in
+          let place : place_of ids None here ≡ place_of ids None there =
+          ap (λ (c : Option ℕ). place_of ids c here) (sym e) ∙ ((each k l).place ∙ ap (λ (c : Option ℕ). place_of ids c there) (sym (cpu_same k l) ∙ e)) in
+          place_tells_entry ids here there (known_at ids v is.known k (below_eight k m l plain.tasks)) (known_at ids w it.known k (below_eight k m l plain.tasks)) place (each k l).by_vtime
+          (key_same k l)
+
+  none_past : (u : ℕ) → m ≤ u → entry_of v.queues u ≡ None
+  none_past u l = past_none v.queues.entries u (omega (arith, l, hs.sound.even))
+
+  none_past_there : (u : ℕ) → m ≤ u → entry_of w.queues u ≡ None
+  none_past_there u l = past_none w.queues.entries u (omega (arith, l, ht.sound.even))
+
+  places : (u : ℕ) → place_in v.queues u ≡ place_in w.queues u
+  places u =
+      ⊎_elim (place_same u)
+      (λ (l : m ≤ u). ap (λ (x : Option Entry). option_map unnumbered x) (none_past u l) ∙ sym (ap (λ (x : Option Entry). option_map unnumbered x) (none_past_there u l)))
+      (cases_lt u m)
+
+  ahead : (u : ℕ) → u < 8 → ahead_of (entries_of v) (entry_of v.queues u) ≡ ahead_of (entries_of w) (entry_of w.queues u)
+  ahead u l =
+      ⊎_elim (λ (k : u < m). (each u k).ahead)
+      (λ (k : m ≤ u). ap (ahead_of (entries_of v)) (none_past u k) ∙ sym (ap (ahead_of (entries_of w)) (none_past_there u k)))
+      (cases_lt u m)
+
+  order : (a b : ℕ) → leads (entry_of v.queues a) (entry_of v.queues b) ≡ leads (entry_of w.queues a) (entry_of w.queues b)
+  order a b =
+      ⊎_elim (λ (l : a < 8).
+      ⊎_elim (λ (k : b < 8). order_told v.queues w.queues hs.queues.stamps ht.queues.stamps places ahead a b l k)
+      (λ (k : 8 ≤ b).
+      ap (leads (entry_of v.queues a)) (none_past b (past b m k plain.tasks)) ∙ (leads_past (entry_of v.queues a)
+      ∙ sym (ap (leads (entry_of w.queues a)) (none_past_there b (past b m k plain.tasks)) ∙ leads_past (entry_of w.queues a))))
+      (cases_lt b 8))
+      (λ (l : 8 ≤ a).
+      ap (λ (x : Option Entry). leads x (entry_of v.queues b)) (none_past a (past a m l plain.tasks))
+      ∙ sym (ap (λ (x : Option Entry). leads x (entry_of w.queues b)) (none_past_there a (past a m l plain.tasks))))
+      (cases_lt a 8)
+
+  queues_same : AreAsQueues v.queues w.queues
+  queues_same = record {
+    room = sym hs.size.2 ∙ ht.size.2;
+    ids = sym hs.size.3 ∙ ht.size.3;
+    tasks = hs.sound.even ∙ sym ht.sound.even;
+    places = places;
+    order = order;
+    stamped = hs.sound.stamped;
+    stamped_there = ht.sound.stamped;
+  }
+
+  -- ---- groups
+
+  waits_alike : (x y : Option Entry) → option_map unnumbered x ≡ option_map unnumbered y → is_some x ≡ is_some y
+  waits_alike None None e = refl
+  waits_alike (Some p) (Some q) e = refl
+  waits_alike None (Some q) e = ap is_some e
+  waits_alike (Some p) None e = ap is_some e
+
+  active_same : v.tree.active ≡ w.tree.active
+  active_same =
+      ext_get_or false v.tree.active w.tree.active (hs.sound.flags ∙ sym ht.sound.flags)
+      (λ k l. runnable_told v w hs.sound.once ht.sound.once cpus_same k (waits_alike (entry_of v.queues k) (entry_of w.queues k) (places k)))
+
+  usages_same : has_quota v.tree.groups ≡ true → v.tree.usages ≡ w.tree.usages
+  usages_same e =
+      let groups = length v.tree.groups in
+      let words : used_words v.tree groups ≡ used_words w.tree (length w.tree.groups) =
+      quota_words (has_quota v.tree.groups) (has_quota w.tree.groups) (used_words v.tree groups) (used_words w.tree (length w.tree.groups)) v.clock w.clock e (ap has_quota (sym shape.groups) ∙ e) told.usages in
+      let same : used_words v.tree groups ≡ used_words w.tree groups = words ∙ ap (λ (gs : List Group). used_words w.tree (length gs)) (sym shape.groups) in
+      let long : length v.tree.usages ≡ length w.tree.usages = hs.tidy.1.1 ∙ (ap (λ (gs : List Group). length gs) shape.groups ∙ sym ht.tidy.1.1) in
+      ext_get_or 0 v.tree.usages w.tree.usages long (λ k l. usages_told v.tree w.tree groups same k (subst (λ (j : ℕ). k < j) hs.tidy.1.1 l))
+
+  -- ---- all of it
+
+  no_claims : (x : SimState) → IsSuited shapes root x → are_linux x.state.world.rules ≡ false
+  no_claims x h = ap are_linux h.rules ∙ plain.rules
+
+  -- the clock is told where the form keeps it, and where a group has a quota
+  pub clock_kept : f.clock ≡ true → v.clock ≡ w.clock
+  clock_kept = told.clock
+
+  pub clock_told : has_quota v.tree.groups ≡ true → v.clock ≡ w.clock
+  clock_told e =
+      quota_clock (has_quota v.tree.groups) (has_quota w.tree.groups) (used_words v.tree (length v.tree.groups)) (used_words w.tree (length w.tree.groups)) v.clock w.clock e (ap has_quota (sym shape.groups) ∙ e) told.usages
+
+  -- ---- once the first one is as late as the second one
+
+  module _ (d : ℕ) (later : v.clock + d ≡ w.clock) where
+    since_same : (k : ℕ) → k < m → later_by d (task_at v k).since ≡ (task_at w k).since
+    since_same k l =
+        let a = (task_at v k).since in
+        let b = (task_at w k).since in
+        let some : is_some a ≡ is_some b =
+        hs.sound.waiting k ∙ (ap (λ (o : Option ℕ). waits_in o || is_this k None) (queue_same v.queues w.queues queues_same k) ∙ sym (ht.sound.waiting k)) in
+        let waited : wait v k ≡ wait w k =
+        min_is (wait v k) (wait w k) (hs.timely k) (ht.timely k)
+        (ap (λ (c : Bool). min (kept c (wait v k)) 65535) (sym whole.waits) ∙ ((each k l).wait ∙ ap (λ (c : Bool). min (kept c (wait w k)) 65535) whole.waits)) in
+        since_told w.clock (later_by d a) b (subst (λ (c : ℕ). IsSince c (later_by d a)) later (still_since v.clock d a (hs.tidy.0 k))) (ht.tidy.0 k) (some_later d a ∙ some)
+        (sym (as_late d v.clock a ∙ ap (λ (c : ℕ). time_since c (later_by d a)) later) ∙ waited)
+
+    -- the record of a task without what is hidden
+    task_same : (k : ℕ) → k < m → hidden_in whole.hidden (delayed_task d (task_at v k)) ≡ hidden_in whole.hidden (task_at w k)
+    task_same k l =
+        let h = each k l in
+        task_told (hidden_in whole.hidden (delayed_task d (task_at v k))) (hidden_in whole.hidden (task_at w k)) (ap (since_unless whole.hidden.waits) (since_same k l))
+        (kept_is (f.idle_slices || not (is_idle (place_at v ids k) (entry_of v.queues k))) (f.idle_slices || not (is_idle (place_at w ids k) (entry_of w.queues k))) (task_at v k).slice (task_at w k).slice
+        (or_true f.idle_slices (not (is_idle (place_at v ids k) (entry_of v.queues k))) whole.idle_slices)
+        (or_true f.idle_slices (not (is_idle (place_at w ids k) (entry_of w.queues k))) whole.idle_slices) h.slice)
+        (unless_same whole.hidden.vtime (task_at v k).vtime (task_at w k).vtime (λ e. kept_is f.vtime f.vtime (task_at v k).vtime (task_at w k).vtime (whole.vtime e) (whole.vtime e) h.vtime))
+        (home_is (task_at v k).prev_cpu (task_at w k).prev_cpu (length v.cpus) (length w.cpus) (hs.sound.homes k) few_cpus (ht.sound.homes k) few_there h.prev_cpu)
+        (unless_same whole.hidden.run_ns (task_at v k).run_ns (task_at w k).run_ns (λ e. kept_is f.run_ns f.run_ns (task_at v k).run_ns (task_at w k).run_ns (whole.run_ns e) (whole.run_ns e) h.run_ns))
+        (hs.fresh.1 k ∙ sym (ht.fresh.1 k))
+
+    tasks_same : all_hidden whole.hidden (map (delayed_task d) v.tasks) ≡ all_hidden whole.hidden w.tasks
+    tasks_same =
+        let many : length (map (delayed_task d) v.tasks) ≡ length w.tasks = sym (as_long (delayed_task d) v.tasks) ∙ shape.tasks in
+        hidden_told whole.hidden no_task (map (delayed_task d) v.tasks) w.tasks many
+        (λ k l. ap (hidden_in whole.hidden) (sym (found_at (delayed_task d) v.tasks k no_task)) ∙ task_same k (subst (λ (j : ℕ). k < j) (many ∙ sym ht.size.0) l))
+
+    -- without what is hidden the machines are the same but for unread parts, once the first one is as late
+    pub whole_told : AreSame (hide_machine whole.hidden (delay_machine d s)) (hide_machine whole.hidden t)
+    whole_told =
+        let policy = hs.policy ∙ sym ht.policy in
+        let maps = maps_told shapes s.state.maps t.state.maps hs.maps ht.maps told.maps in
+        let clock = later in
+        let tasks = tasks_same in
+        let cpus = cpus_same in
+        let cycling = hs.still ∙ sym ht.still in
+        let passing = hs.settled ∙ sym ht.settled in
+        let rules = shape.rules in
+        let claimed = hs.tidy.1.2 (no_claims s hs) ∙ sym (ht.tidy.1.2 (no_claims t ht)) in
+        let tracks = hs.quiet.1 hs.force ∙ sym (ht.quiet.1 ht.force) in
+        let timers = no_timers (map (delayed_alarm d) v.timers) w.timers (sym (as_long (delayed_alarm d) v.timers) ∙ (sym hs.size.5 ∙ plain.timers)) (sym ht.size.5 ∙ plain.timers) in
+        let random = ⊎_elim told.random (λ (may : DrawNone root.state.policy). hs.random may ∙ sym (ht.random may)) whole.random in
+        let groups = shape.groups in
+        let homes = sym hs.tidy.1.0.1 ∙ ht.tidy.1.0.1 in
+        let weights = sym hs.tidy.1.0.2 ∙ ht.tidy.1.0.2 in
+        let masks = sym hs.tidy.1.0.3 ∙ ht.tidy.1.0.3 in
+        let active = active_same in
+        let builtin = hs.fresh.0 ∙ sym ht.fresh.0 in
+        let force = ap (delayed_eject d) hs.force ∙ sym ht.force in
+        let notes = ap (λ (ns : List Note). map (delayed_note d) ns) hs.quiet.0 ∙ sym ht.quiet.0 in
+        record {
+          parts = record {
+            queues = queues_same;
+            call = λ e. absurd (false_isnt_so e);
+            kicked = λ e. absurd (false_isnt_so (sym (no_claims s hs) ∙ e));
+            preempted = λ e. absurd (false_isnt_so (sym (no_claims s hs) ∙ e));
+            usages = usages_same;
+          };
+          rest = λ i. record {
+            policy = policy i;
+            maps = maps i;
+            world = record {
+              clock = clock i;
+              tasks = tasks i;
+              cpus = cpus i;
+              cycling = cycling i;
+              passing = passing i;
+              rules = rules i;
+              claimed = claimed i;
+              kicked = w.kicked;
+              preempted = w.preempted;
+              tracks_idle = tracks i;
+              timers = timers i;
+              random = random i;
+              queues = w.queues;
+              tree = record { groups = groups i; homes = homes i; own_weights = weights i; masks = masks i; active = active i; usages = w.tree.usages };
+              call = w.call;
+              builtin_clock = builtin i;
+              ejected = force i;
+              notes = notes i;
+            };
+          };
+        }
