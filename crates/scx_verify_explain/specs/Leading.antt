@@ -12,7 +12,7 @@ use Rattle.scx_verify_explain.specs.declared.listing.Listing.{Listing}
 use Rattle.scx_verify_explain.specs.declared.jumps.Jumps.{Jumps}
 use Rattle.scx_verify_explain.specs.Listings.{known_at}
 
--- where a jump leads that goes so far from the slot behind it, if it goes forward
+-- where a jump leads that goes that far from the slot after it, if it goes forward
 abbrev pub forward : ℕ → ℤ → Option ℕ
 forward s (pos n) = Some (s + n)
 forward s k = None
@@ -60,7 +60,7 @@ first_at j t = slice_index_or j.first.items t None
 abbrev pub next_at : Jumps → ℕ → Option ℕ
 next_at j s = slice_index_or j.next.items s None
 
--- The jumps from the n-th slot on, to one of so many slots: to each slot the first, and behind each
+-- The jumps from the n-th slot on, to one of that many slots: to each the first, and after each
 -- jump the next one that leads to the same slot.
 pub record AreFrom (jumps : ℕ → Option ℕ) (n slots : ℕ) (heads links : List (Option ℕ))
     : Type 0 where

@@ -19,7 +19,7 @@ IsEnd c code states slots =
     ((slots ≡ length code) × IsTyping c code states)
     ⊎ ((why : Why) × (slot : ℕ) × (slots ≡ slot + 1) × IsFirstRefusal c code why slot)
 
--- These are the forward states of so many slots, which are all, or those up to the first
+-- These are the forward states of that many slots, which are all, or those up to the first
 -- that is refused.
 pub record IsPass (c : Context) (code : Code) (states : States) (slots : ℕ) : Type 0 where
   pub forward : (t : ℕ) → t < slots → IsLeast (states t) (Arrives c code states t t)

@@ -78,7 +78,7 @@ value_reach_from v p = record { place = p; count = v.count }
 abbrev pub value_reach : List Shape → AbsState → ValueBytes → Option Reach
 value_reach shapes a v = option_map (value_reach_from v) (place_of shapes (kind_at a (number v.base)))
 
--- so many bytes of the stack from that one on, counted from the lowest
+-- that many bytes of the stack from that one on, counted from the lowest
 abbrev pub stack_bytes : ℕ → ℕ → Reach
 stack_bytes first n = record { place = stack_place first; count = n }
 

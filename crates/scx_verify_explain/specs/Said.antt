@@ -133,7 +133,7 @@ pub record HasByte (a : AbsState) (first n byte : ℕ) (k : Kind) : Type 0 where
   pub before_end : byte < first + n
   pub known : byte_kind a byte ≡ k
 
--- what is said of so many bytes of the stack from that one on: one isn't written, or is
+-- what is said of that many bytes of the stack from that one on: one isn't written, or is
 -- a part of a pointer
 abbrev pub IsUnwritten : AbsState → ℕ → ℕ → BadAccess → Type 0
 IsUnwritten a first n (access.Unwritten reach byte) =
@@ -239,7 +239,7 @@ IsAccessSaid shapes i a (access.Outside reach) =
 IsAccessSaid shapes i a (access.MovedOut r place) = MovesTo shapes i a r place
 IsAccessSaid shapes i a (access.Misaligned reach) = Reaches shapes i a reach
 
--- the instruction accesses a task at that offset, by so many bytes
+-- the instruction accesses a task at that offset, by that many bytes
 pub record AccessesTask (i : Insn) (a : AbsState) (offset : ℤ) (s : Size) : Type 0 where
   pub base : Register
   pub given : address_of i ≡ Some (record { base = base; offset = offset; size = s })

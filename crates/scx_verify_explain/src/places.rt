@@ -167,7 +167,7 @@ pub(crate) fn value_reach(state: &AbsState, value: ValueBytes, defs: &MapDefs) -
     }
 }
 
-/// So many bytes of the stack, from that one on.
+/// `count` bytes of the stack, from `first` on.
 pub(crate) fn stack_bytes(first: u16, count: u16) -> Reach
     ensures { result ≡ stack_bytes first count }
 {
