@@ -14,7 +14,7 @@ range_of low high step = between low high (shift_of step)
 abbrev pub kept_step : Range → Step
 kept_step r = if nat_eq r.low r.high then One else step_of r.shift
 
--- what is kept is a range, and no other step stands for it
+-- what is kept is a range, and no other step means the same
 pub record IsKeptRange (low high : ℕ) (step : Step) : Type 0 where
   pub range : IsRange (range_of low high step)
   pub back : kept_step (range_of low high step) ≡ step

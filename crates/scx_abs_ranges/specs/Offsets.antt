@@ -1,4 +1,4 @@
--- Ranges of offsets in an element of a map. A pointer may stand at the end of its element, so an
+-- Ranges of offsets in an element of a map. A pointer may be at the end of its element, so an
 -- offset is at most the element's size; it is moved by a constant or by a range of numbers, and an
 -- access is checked at each offset of the range.
 use Rattle.std.specs.Prelude.{ℕ, ◌+◌, ◌%◌, ◌^◌, ℤ, unsigned_abs, min, Bool, false, ◌&&◌, ◌||◌, nat_eq, nat_le, Option, Some, None, is_some, if◌then◌else◌}

@@ -1,4 +1,4 @@
--- Steps between the members of a range, and the shifts that they stand for.
+-- Steps between the members of a range, and the shifts that they mean.
 use Rattle.std.specs.Prelude.{ℕ, ◌≡◌, nat_eq, if◌then◌else◌}
 use Rattle.std.proofs.Common.{refl}
 use Rattle.scx_abs_ranges.specs.declared.steps.Step.{Step}
