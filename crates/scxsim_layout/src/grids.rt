@@ -1,3 +1,6 @@
+ghost use Rattle.std.specs.Prelude.{◌≡◌, slice_index_or};
+ghost use Rattle.scxsim_layout.specs.Areas.{time_at, stacked};
+
 use crate::scales::{Mark, Scale};
 use std::alloc::{AllocError, Global};
 
@@ -58,17 +61,34 @@ impl Grid {
     }
 
     /// The sum of a column in a row.
-    pub fn sum(&self, row: usize, column: u64) -> u64 {
-        match self.sums.get(self.place(row, column)) {
-            Some(sum) => u64::from(*sum),
-            None => 0,
-        }
+    pub fn sum(&self, row: usize, column: u64) -> u64
+        ensures { result ≡ time_at self.now row column }
+    {
+        u64::from(self.sums.get(self.place(row, column)).copied().unwrap_or(0))
     }
 
+    /// The sum of a column in the first rows.
+    pub(crate) fn stacked(&self, rows: usize, column: u64) -> u64
+        ensures { result ≡ stacked rows self.now column }
+    {
+        let mut ms = 0u64;
+        for row in 0..rows {
+            ms = ms.saturating_add(self.sum(row, column));
+        }
+        ms
+    }
+
+    /// The place of a column of a row; one past all sums if there is no such column.
     #[inline(always)]
-    fn place(&self, row: usize, column: u64) -> usize {
-        row.saturating_mul(self.columns)
-            .saturating_add(column as usize)
+    fn place(&self, row: usize, column: u64) -> usize
+        ensures { slice_index_or self.now.sums.items result 0 ≡ time_at self.now row column }
+    {
+        if (column as usize) < self.columns {
+            row.saturating_mul(self.columns)
+                .saturating_add(column as usize)
+        } else {
+            usize::MAX
+        }
     }
 }
 

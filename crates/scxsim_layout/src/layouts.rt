@@ -130,6 +130,25 @@ impl Layout {
     pub fn strip(&self, group: u32) -> Option<usize> {
         self.groups.get(group as usize).copied()?
     }
+
+    /// The layer of a task in the area of all CPUs: that of the strip of its group, or of the row that shows its group.
+    #[inline(always)]
+    pub fn layer(&self, task: TaskPlace) -> usize {
+        match self.strip(task.home) {
+            Some(strip) => strip,
+            None => self.strip_of_row(task.row).unwrap_or(0),
+        }
+    }
+
+    /// The strip of a row, if there is such a row and it has one.
+    fn strip_of_row(&self, row: usize) -> Option<usize> {
+        self.row(row)?.strip
+    }
+
+    /// The number of layers of tasks in the area of all CPUs.
+    pub fn layers(&self) -> usize {
+        self.strips.max(1)
+    }
 }
 
 /// A layout while its rows are added.
@@ -180,7 +199,7 @@ impl Plan {
     {
         let high = place(self.rows.as_mut_slice());
         let rows_count = (self.rows.len() as u64).max(1);
-        let most = (MOST_CELLS / rows_count).min(MOST_COLUMNS);
+        let most = (MOST_CELLS / self.lines().max(1)).min(MOST_COLUMNS);
         let Plan {
             rows,
             groups,
@@ -201,6 +220,16 @@ impl Plan {
             folding,
             strips,
             high,
+        }
+    }
+
+    /// The number of rows, and of layers of an area: each of them has columns.
+    fn lines(&self) -> u64 {
+        let rows = self.rows.len() as u64;
+        if self.folding.has_area {
+            rows.saturating_add(self.strips as u64).saturating_add(2)
+        } else {
+            rows
         }
     }
 

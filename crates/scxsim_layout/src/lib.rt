@@ -2,6 +2,7 @@
 //! that add up time by row and column, and the sheet on which a picture is written, with its colours and patterns.
 #![tactic(auto)]
 
+mod areas;
 mod colours;
 mod grids;
 mod groups;
@@ -14,6 +15,7 @@ mod shades;
 mod sheets;
 mod styles;
 
+pub use areas::Area;
 pub use grids::Grid;
 pub use layouts::{Layout, TaskPlace};
 pub use levels::{LEVELS, Level, Levels};

@@ -4,7 +4,7 @@ use scx_load_workloads::Workload;
 /// The most rows of a picture.
 pub(crate) const MOST_ROWS: usize = 128;
 
-/// The most CPUs with a row each; more are added up by fours.
+/// The most CPUs with a row each; more are one area.
 const MOST_CPUS: u32 = 32;
 
 /// The rows that are left for groups, however many CPUs there are.
@@ -13,8 +13,8 @@ const GROUP_ROWS: usize = 96;
 /// The CPUs, tasks and groups that are added up, so that a picture has few rows.
 #[derive(Clone, Copy)]
 pub struct Folding {
-    /// True if CPUs are added up by fours.
-    pub by_fours: bool,
+    /// True if all CPUs are one area.
+    pub has_area: bool,
     /// The most tasks of a group whose tasks have rows of their own: those of larger groups are added up.
     pub most_tasks: u64,
     /// The number of groups without a parent in a row, with all within them; none if each group has a row.
@@ -24,20 +24,20 @@ pub struct Folding {
 impl Folding {
     /// The folding of a workload whose groups have these numbers of tasks.
     pub(crate) fn of(workload: &Workload, sizes: &[u64]) -> Folding {
-        let by_fours = workload.cpus() > MOST_CPUS;
+        let has_area = workload.cpus() > MOST_CPUS;
         let groups = workload.groups().len();
         if groups > GROUP_ROWS {
             return Folding {
-                by_fours,
+                has_area,
                 most_tasks: 0,
                 tops_a_row: Some(tops(workload.groups()).div_ceil(GROUP_ROWS).max(1)),
             };
         }
-        let cpus = rows_of_cpus(workload.cpus(), by_fours);
+        let cpus = rows_of_cpus(workload.cpus(), has_area);
         let shown = if groups > 1 { groups } else { 0 };
         let room = MOST_ROWS.saturating_sub(cpus).saturating_sub(shown);
         Folding {
-            by_fours,
+            has_area,
             most_tasks: most_tasks(sizes, room as u64),
             tops_a_row: None,
         }
@@ -48,15 +48,15 @@ impl Folding {
         tasks > self.most_tasks
     }
 
-    /// The number of CPUs added up in a row.
+    /// The most CPUs in a row.
     pub(crate) fn cpus_a_row(self) -> u32 {
-        if self.by_fours { 4 } else { 1 }
+        if self.has_area { u32::MAX } else { 1 }
     }
 
     /// The row of a CPU.
     #[inline(always)]
     pub(crate) fn cpu_row(self, cpu: usize) -> usize {
-        if self.by_fours { cpu / 4 } else { cpu }
+        if self.has_area { 0 } else { cpu }
     }
 
     /// True if a group at that depth has a row of its own, after `tops_before` groups without a parent.
@@ -74,12 +74,8 @@ impl Folding {
 }
 
 /// The number of rows of CPUs.
-fn rows_of_cpus(cpus: u32, by_fours: bool) -> usize {
-    if by_fours {
-        cpus.div_ceil(4) as usize
-    } else {
-        cpus as usize
-    }
+fn rows_of_cpus(cpus: u32, has_area: bool) -> usize {
+    if has_area { 1 } else { cpus as usize }
 }
 
 /// The most tasks of a group whose tasks have rows of their own, in that room: the largest groups are added up first.
@@ -169,6 +165,8 @@ impl Heights {
     fn of_runs(self, row: Row) -> u64 {
         if !row.has_runs() {
             0
+        } else if row.is_area() {
+            AREA
         } else if row.is_group() {
             self.group
         } else {
@@ -176,6 +174,9 @@ impl Heights {
         }
     }
 }
+
+/// The height of the area of all CPUs.
+const AREA: u64 = 124;
 
 /// The gap above a group, and between CPUs and tasks.
 const GROUP_GAP: u64 = 8;
@@ -259,6 +260,11 @@ impl Row {
             Kind::Cpus { .. } => true,
             Kind::Groups { .. } | Kind::Task(_) => false,
         }
+    }
+
+    /// True if it shows several CPUs, as an area.
+    pub fn is_area(self) -> bool {
+        self.is_cpu() && self.members > 1
     }
 
     /// True if it shows groups.

@@ -2,3 +2,4 @@ pub mod NoteLines
 pub mod Sketching
 pub mod Pictures
 pub mod Documents
+pub mod Bars

@@ -4,19 +4,12 @@ use std::alloc::{AllocError, Global};
 #[derive(Clone, Copy)]
 struct Woken {
     moment: u64,
-    /// True if a slice of its track begins there.
-    is_shown: bool,
+    /// The number of its arrow, if a wait that is drawn begins with it.
+    arrow: Option<u64>,
 }
 
-/// An arrow from a task's wake to its run.
-#[derive(Clone, Copy)]
-pub(crate) struct Arrow {
-    pub(crate) moment: u64,
-    /// No other arrow has this number.
-    pub(crate) number: u64,
-}
-
-/// The tasks that have woken and not stopped since.
+/// The tasks that have woken and not stopped since, and their arrows: each from a wait that began with a wake to the run
+/// that it led to. No two arrows have the same number.
 #[derive(Drop)]
 pub(crate) struct Arrows {
     woken: Vec<Option<Woken>>,
@@ -37,37 +30,31 @@ impl Arrows {
         if let Some(place) = self.woken.get_mut(task as usize) {
             *place = Some(Woken {
                 moment,
-                is_shown: false,
+                arrow: None,
             });
         }
     }
 
-    /// A slice of the task's track begins at that moment.
-    pub(crate) fn show(&mut self, task: u16, since: u64) {
-        if let Some(place) = self.woken.get_mut(task as usize) {
-            *place = shown(*place, since);
-        }
-    }
-
-    /// The task stops. Returns the arrow from its wake, if it woke since it stopped last and an arrow can begin there.
-    pub(crate) fn stop(&mut self, task: u16) -> Option<Arrow> {
-        let woken = self.woken.get_mut(task as usize)?.take()?;
-        if !woken.is_shown {
+    /// A wait of the task that began at that moment is drawn. Returns the number of the arrow that begins there, if the task
+    /// woke then.
+    pub(crate) fn begin(&mut self, task: u16, since: u64) -> Option<u64> {
+        let place = self.woken.get_mut(task as usize)?;
+        let Woken { moment, .. } = (*place)?;
+        if moment != since {
             return None;
         }
-        self.count = self.count.saturating_add(1);
-        Some(Arrow {
-            moment: woken.moment,
-            number: self.count,
-        })
+        let number = self.count.saturating_add(1);
+        *place = Some(Woken {
+            moment,
+            arrow: Some(number),
+        });
+        self.count = number;
+        Some(number)
     }
-}
 
-/// The wake after a slice of the task's track has begun at that moment.
-fn shown(woken: Option<Woken>, since: u64) -> Option<Woken> {
-    let woken = woken?;
-    Some(Woken {
-        is_shown: woken.is_shown || woken.moment == since,
-        ..woken
-    })
+    /// The task stops. Returns the number of the arrow that leads to its run, if one does.
+    pub(crate) fn stop(&mut self, task: u16) -> Option<u64> {
+        let woken = self.woken.get_mut(task as usize)?.take()?;
+        woken.arrow
+    }
 }

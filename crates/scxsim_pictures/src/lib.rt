@@ -1,7 +1,8 @@
 //! Pictures of a run: a timeline in the Chrome trace format, which Perfetto opens, and a drawing in SVG.
 //!
-//! The timeline is written as the run goes. It shows the runs of tasks on each CPU, the waits of tasks by queue,
-//! their wakes, inserts and moves, the times that they were parked, the length of each queue, the weights of groups, and the ejection.
+//! The timeline of a run or of a part of it is written as the run goes. It shows the runs of tasks on each CPU, the waits
+//! of tasks by queue, their wakes, the times that they were parked, the length of each queue, the weights of groups, and
+//! the ejection.
 //!
 //! The drawing has a row for each CPU, each group and each task of a run or of a part of it. Long runs and waits
 //! are bars of their own; shorter ones are added up in columns, whose shades say how much of them ran. Sums are kept as

@@ -5,86 +5,85 @@
 ghost use Rattle.std.specs.Prelude.{◌+◌, ◌≤◌, length};
 ghost use Rattle.arrayvec.specs.ArrayString.{array_string_len};
 
-use crate::arrows::Arrow;
 use crate::note_lines::{Line, Named, Part, push_number};
 use crate::queue_lengths::Count;
-use crate::tracks::{CPUS, EJECTIONS, QUEUES, TASKS, WAITS, WAKES, WEIGHTS};
+use crate::tracks::{
+    CPUS, EJECTIONS, PARKED as PARKED_TRACKS, QUEUES, TASKS, WAITS, WAKES, WEIGHTS,
+};
 use itoa::Buffer;
 use scx_sched_world::{BUILTIN, GLOBAL, HELD, PARKED, POLICY_END};
 
 /// A millisecond in microseconds.
 const MS: u64 = 1000;
 
-/// The slice of a task that ran on a CPU, or was parked, between two moments.
-pub(crate) fn slice(pid: u32, tid: u32, task: u16, since: u64, until: u64) -> Line {
-    named(slice_start(pid, tid, since, until), task, name_end())
+/// The time between two moments that a slice shows.
+#[derive(Clone, Copy)]
+pub(crate) struct Bar {
+    pub(crate) since: u64,
+    pub(crate) until: u64,
 }
 
-/// The slice of a task that waited in a queue between two moments.
-pub(crate) fn wait(task: u16, queue: u64, since: u64, until: u64) -> Line {
-    let mut text = slice_start(WAITS, u32::from(task), since, until);
-    push_queue(&mut text, queue);
-    text.push_str("\"}");
-    Line::nameless(text)
+/// The slice of a task that ran on a CPU, with the number of the arrow that leads to it.
+pub(crate) fn run(cpu: u32, task: u16, bar: Bar, arrow: Option<u64>) -> Line {
+    named(
+        slice_start(CPUS, cpu, bar),
+        task,
+        slice_end(arrow, "\",\"flow_in\":true}"),
+    )
+}
+
+/// The slice of a task that was parked.
+pub(crate) fn parked(task: u16, bar: Bar) -> Line {
+    named(
+        slice_start(PARKED_TRACKS, u32::from(task), bar),
+        task,
+        name_end(),
+    )
+}
+
+/// The slice of a task that waited in a queue, with the number of the arrow that begins there.
+pub(crate) fn wait(task: u16, queue: u64, bar: Bar, arrow: Option<u64>) -> Line {
+    let mut start = slice_start(WAITS, u32::from(task), bar);
+    push_queue(&mut start, queue);
+    Line {
+        start,
+        named: None,
+        end: slice_end(arrow, "\",\"flow_out\":true}"),
+    }
 }
 
 /// The start of a slice, up to its name.
-fn slice_start(pid: u32, tid: u32, since: u64, until: u64) -> Part
+fn slice_start(pid: u32, tid: u32, bar: Bar) -> Part
     ensures { array_string_len result ≤ 150 }
 {
     let mut start = Part::new();
     push_number(&mut start, ",\n{\"ph\":\"X\",\"pid\":", u64::from(pid));
     push_number(&mut start, ",\"tid\":", u64::from(tid));
-    push_number(&mut start, ",\"ts\":", since.saturating_mul(MS));
-    let length = until.saturating_sub(since);
+    push_number(&mut start, ",\"ts\":", bar.since.saturating_mul(MS));
+    let length = bar.until.saturating_sub(bar.since);
     push_number(&mut start, ",\"dur\":", length.saturating_mul(MS));
     start.push_str(",\"name\":\"");
     start
 }
 
-/// The start of an arrow, at the wake of a task in the slice of its wait.
-pub(crate) fn arrow_start(task: u16, arrow: Arrow) -> Line {
-    let mut text = arrow_at("s", WAITS, u32::from(task), arrow.moment);
-    push_number(&mut text, ",\"id\":", arrow.number);
-    text.push_str("}");
-    Line::nameless(text)
-}
-
-/// The end of an arrow, at the beginning of the task's run on a CPU.
-pub(crate) fn arrow_end(cpu: u32, moment: u64, arrow: Arrow) -> Line {
-    let mut text = arrow_at("f", CPUS, cpu, moment);
-    push_number(&mut text, ",\"bp\":\"e\",\"id\":", arrow.number);
-    text.push_str("}");
-    Line::nameless(text)
-}
-
-/// The start of an arrow's object, up to its number.
-fn arrow_at(phase: &str, pid: u32, tid: u32, moment: u64) -> Part
-    requires { length phase.now ≤ 1 }
-    ensures { array_string_len result ≤ 150 }
+/// The end of a slice, after its name: with the number of its arrow and these words, if it has one.
+fn slice_end(arrow: Option<u64>, words: &str) -> Part
+    requires { length words.now ≤ 100 }
 {
-    let mut text = Part::new();
-    text.push_str(",\n{\"ph\":\"");
-    text.push_str(phase);
-    push_number(&mut text, "\",\"pid\":", u64::from(pid));
-    push_number(&mut text, ",\"tid\":", u64::from(tid));
-    push_number(&mut text, ",\"ts\":", moment.saturating_mul(MS));
-    text.push_str(",\"cat\":\"wake\",\"name\":\"wake\"");
-    text
+    let Some(number) = arrow else {
+        return name_end();
+    };
+    let mut end = Part::new();
+    push_number(&mut end, "\",\"bind_id\":\"", number);
+    end.push_str(words);
+    end
 }
 
 /// A task wakes.
 pub(crate) fn wake(moment: u64, task: u16) -> Line {
-    named(instant(moment, WAKES), task, name_end())
-}
-
-/// A task comes to a queue.
-pub(crate) fn entry(moment: u64, track: u32, task: u16, queue: u64) -> Line {
-    let mut end = Part::new();
-    end.push_str(" to ");
-    push_queue(&mut end, queue);
-    end.push_str("\"}");
-    named(instant(moment, track), task, end)
+    let mut start = instant(moment, WAKES);
+    start.push_str(",\"name\":\"");
+    named(start, task, name_end())
 }
 
 /// The policy is ejected because a task waited too long.
@@ -144,15 +143,14 @@ fn counter(pid: u32, moment: u64) -> Part
     start
 }
 
-/// The start of an instant of one track, up to its name.
+/// The start of an instant of a track, up to its moment.
 fn instant(moment: u64, track: u32) -> Part
-    ensures { array_string_len result ≤ 150 }
+    ensures { array_string_len result ≤ 100 }
 {
     let mut start = Part::new();
     push_number(&mut start, ",\n{\"ph\":\"i\",\"pid\":", u64::from(TASKS));
     push_number(&mut start, ",\"tid\":", u64::from(track));
     push_number(&mut start, ",\"ts\":", moment.saturating_mul(MS));
-    start.push_str(",\"name\":\"");
     start
 }
 
@@ -160,10 +158,7 @@ fn instant(moment: u64, track: u32) -> Part
 fn ejection(moment: u64) -> Part
     ensures { array_string_len result ≤ 150 }
 {
-    let mut start = Part::new();
-    push_number(&mut start, ",\n{\"ph\":\"i\",\"pid\":", u64::from(TASKS));
-    push_number(&mut start, ",\"tid\":", u64::from(EJECTIONS));
-    push_number(&mut start, ",\"ts\":", moment.saturating_mul(MS));
+    let mut start = instant(moment, EJECTIONS);
     start.push_str(",\"s\":\"g\",\"name\":\"eject ");
     start
 }

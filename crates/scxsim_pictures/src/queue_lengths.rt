@@ -13,12 +13,28 @@ const LOCAL_QUEUES: usize = 64;
 /// The most queues that a run has.
 const MAX_QUEUES: usize = POLICY_QUEUES + SHARED_QUEUES + LOCAL_QUEUES;
 
-/// The number of tasks that wait in a queue, and the one that was told last.
+/// The number of tasks that wait in a queue since the moment at which it changed, and the one that was told last.
 #[derive(Clone, Copy, Default)]
 struct Length {
     queue: u64,
+    changed: u64,
     tasks: u64,
     told: u64,
+}
+
+impl Length {
+    /// Tells the number of tasks, if it changed before that moment and isn't told.
+    fn tell_before(&mut self, moment: u64) -> Option<Count> {
+        if self.tasks == self.told || moment <= self.changed {
+            return None;
+        }
+        self.told = self.tasks;
+        Some(Count {
+            moment: self.changed,
+            queue: self.queue,
+            tasks: self.tasks,
+        })
+    }
 }
 
 /// The number of tasks that wait in a queue from that moment on.
@@ -29,13 +45,6 @@ pub(crate) struct Count {
     pub(crate) tasks: u64,
 }
 
-/// A queue whose length changed at that moment, and isn't told yet.
-#[derive(Clone, Copy)]
-struct Changed {
-    moment: u64,
-    queue: u64,
-}
-
 /// A task's wait in a queue, and its beginning.
 #[derive(Clone, Copy)]
 pub(crate) struct Stay {
@@ -43,13 +52,14 @@ pub(crate) struct Stay {
     pub(crate) since: u64,
 }
 
-/// The queue in which each task waits, and the number of tasks in each queue.
+/// The queue in which each task waits, and the number of tasks in each queue. Of several changes of a queue at one moment
+/// the last one is told, when the queue changes again or time has passed.
 #[derive(Drop)]
 pub(crate) struct Lengths {
     stays: Vec<Option<Stay>>,
     queues: ArrayVec<Length, MAX_QUEUES>,
-    /// The queue whose length changed last.
-    changed: Option<Changed>,
+    /// All changes before that moment are told.
+    told_before: u64,
 }
 
 impl Lengths {
@@ -58,7 +68,7 @@ impl Lengths {
         Ok(Lengths {
             stays: vec![in alloc; None; tasks]?,
             queues: ArrayVec::new(),
-            changed: None,
+            told_before: 0,
         })
     }
 
@@ -75,62 +85,51 @@ impl Lengths {
         before
     }
 
-    /// One task more waits in that queue. Returns the length of the queue that changed before, if it is to be told.
+    /// One task more waits in that queue. Returns its length before, if it is to be told.
     pub(crate) fn add(&mut self, moment: u64, queue: u64) -> Option<Count> {
-        let before = self.turn_to(moment, queue);
         for length in self.queues.as_mut_slice() {
             if length.queue == queue {
+                let before = length.tell_before(moment);
                 length.tasks = length.tasks.saturating_add(1);
+                length.changed = moment;
                 return before;
             }
         }
         // A run has no more queues than there is room for.
         let _ = self.queues.try_push(Length {
             queue,
+            changed: moment,
             tasks: 1,
             told: 0,
         });
-        before
+        None
     }
 
-    /// One task less waits in that queue. Returns the length of the queue that changed before, if it is to be told.
+    /// One task less waits in that queue. Returns its length before, if it is to be told.
     pub(crate) fn take(&mut self, moment: u64, queue: u64) -> Option<Count> {
-        let before = self.turn_to(moment, queue);
         for length in self.queues.as_mut_slice() {
             if length.queue == queue {
+                let before = length.tell_before(moment);
                 length.tasks = length.tasks.saturating_sub(1);
+                length.changed = moment;
+                return before;
             }
         }
-        before
+        None
     }
 
-    /// The length of that queue changes at that moment.
-    fn turn_to(&mut self, moment: u64, queue: u64) -> Option<Count> {
-        let is_same = match self.changed {
-            Some(changed) => changed.moment == moment && changed.queue == queue,
-            None => false,
-        };
-        if is_same {
+    /// A length that changed before that moment and isn't told, if there is one.
+    pub(crate) fn tell_before(&mut self, moment: u64) -> Option<Count> {
+        if moment <= self.told_before {
             return None;
         }
-        let before = self.tell();
-        self.changed = Some(Changed { moment, queue });
-        before
-    }
-
-    /// The length of the queue that changed last, unless it is the one that was told before.
-    pub(crate) fn tell(&mut self) -> Option<Count> {
-        let Changed { moment, queue } = self.changed.take()?;
         for length in self.queues.as_mut_slice() {
-            if length.queue == queue && length.tasks != length.told {
-                length.told = length.tasks;
-                return Some(Count {
-                    moment,
-                    queue,
-                    tasks: length.tasks,
-                });
+            let told = length.tell_before(moment);
+            if told.is_some() {
+                return told;
             }
         }
+        self.told_before = moment;
         None
     }
 }

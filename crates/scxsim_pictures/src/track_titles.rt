@@ -1,6 +1,4 @@
-use crate::tracks::{
-    CPUS, EJECTIONS, INSERTS, MOVES, PARKED, QUEUES, TASKS, WAITS, WAKES, WEIGHTS,
-};
+use crate::tracks::{CPUS, EJECTIONS, PARKED, QUEUES, TASKS, WAITS, WAKES, WEIGHTS};
 use arrayvec::ArrayString;
 use scx_load_workloads::Workload;
 use scxsim_output::Text;
@@ -13,11 +11,13 @@ pub(crate) const HEAD: &str = "{\"displayTimeUnit\":\"ms\",\"traceEvents\":[\n";
 
 pub(crate) const END: &str = "\n]}\n";
 
-/// The titles of all tracks, which are the first objects of a document, and the first weights of groups.
+/// The titles of all tracks, which are the first objects of a document, and the first weights of groups, at the moment
+/// with which it begins.
 pub(crate) fn titles(
     alloc: Global,
     title: &str,
     workload: &Workload,
+    from: u64,
 ) -> Result<String, AllocError> {
     let mut text = Text::new(alloc);
     push_cpus(&mut text, title, workload.cpus());
@@ -31,7 +31,7 @@ pub(crate) fn titles(
     push_names(&mut text, WAITS, workload);
     if has_weights(workload) {
         push_group(&mut text, WEIGHTS, 5, "weights");
-        push_weights(&mut text, workload);
+        push_weights(&mut text, workload, from);
     }
     text.finish()
 }
@@ -41,12 +41,13 @@ pub(crate) fn has_weights(workload: &Workload) -> bool {
     workload.groups().len() > 1
 }
 
-/// Appends the weight of each group at the beginning.
-fn push_weights(text: &mut Text, workload: &Workload) {
+/// Appends the weight of each group at the beginning, as of that moment.
+fn push_weights(text: &mut Text, workload: &Workload, from: u64) {
     let mut number = 0u32;
     for group in workload.groups() {
         text.number(",\n{\"ph\":\"C\",\"pid\":", u64::from(WEIGHTS));
-        text.push(",\"ts\":0,\"name\":\"");
+        text.number(",\"ts\":", from.saturating_mul(1000));
+        text.push(",\"name\":\"");
         text.push(workload.group(number));
         text.number("\",\"args\":{\"weight\":", u64::from(group.weight));
         text.push("}}");
@@ -95,8 +96,6 @@ fn cpu_name(cpu: u32) -> ArrayString<16> {
 fn push_tasks(text: &mut Text) {
     push_group(text, TASKS, 4, "tasks");
     push_title(text, "thread_name", TASKS, WAKES, "wakes");
-    push_title(text, "thread_name", TASKS, INSERTS, "inserts");
-    push_title(text, "thread_name", TASKS, MOVES, "moves");
     push_title(text, "thread_name", TASKS, EJECTIONS, "ejections");
 }
 

@@ -9,7 +9,7 @@ pub(crate) const QUEUES: u32 = 3;
 /// The times that tasks were parked.
 pub(crate) const PARKED: u32 = 4;
 
-/// The waits of tasks, by queue.
+/// The waits of tasks in queues.
 pub(crate) const WAITS: u32 = 5;
 
 /// The weights of groups.
@@ -17,8 +17,4 @@ pub(crate) const WEIGHTS: u32 = 6;
 
 pub(crate) const WAKES: u32 = 0;
 
-pub(crate) const INSERTS: u32 = 1;
-
-pub(crate) const MOVES: u32 = 2;
-
-pub(crate) const EJECTIONS: u32 = 3;
+pub(crate) const EJECTIONS: u32 = 1;

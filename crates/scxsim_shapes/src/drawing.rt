@@ -127,6 +127,10 @@ impl Picture {
     }
 
     fn draw_row(&self, sheet: &mut Sheet, levels: &mut Levels, place: usize, row: Row) {
+        if row.is_area() {
+            self.draw_area(sheet, row);
+            return;
+        }
         let step = self.gathered.layout.scale.step;
         let most = row.members.min(u64::from(self.workload.cpus()));
         let unit = step.saturating_mul(row.members);

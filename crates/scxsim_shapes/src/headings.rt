@@ -201,7 +201,7 @@ impl Picture {
     /// Adds a line on columns and folded rows, below the legend.
     fn draw_notes(&self, sheet: &mut Sheet) {
         let layout = &self.gathered.layout;
-        let is_whole = !layout.folding.by_fours && !layout.is_folded();
+        let is_whole = !layout.folding.has_area && !layout.is_folded();
         if layout.scale.step == 1 && is_whole {
             return;
         }
@@ -217,8 +217,8 @@ impl Picture {
     fn put_folding(&self, sheet: &mut Sheet) {
         let layout = &self.gathered.layout;
         let folding = layout.folding;
-        if folding.by_fours {
-            sheet.put(" CPUs are added up by fours.");
+        if folding.has_area {
+            sheet.put(" All CPUs are one area, as high as their runs.");
         }
         if folding.tops_a_row.is_some() {
             sheet.put(" Groups are added up with those within them.");
@@ -252,11 +252,7 @@ impl Picture {
                 "<path class=\"b0\" d=\"M0 0h14v12h-14z\"/><path class=\"b1\" d=\"M16 0h14v12h-14z\"/>",
                 self.runs_words(),
             ),
-            1 => entry_if(
-                self.has_several(),
-                "<path class=\"several\" d=\"M0 0h30v12h-30z\"/>",
-                "several of them in turn",
-            ),
+            1 => self.entry_of_cpus(),
             2 => entry_if(
                 !self.gathered.bars.wakes.is_empty(),
                 "<path class=\"ink\" d=\"M15 2l4 8h-8z\"/>",
@@ -294,6 +290,21 @@ impl Picture {
                 self.frame_words(),
             ),
         }
+    }
+
+    /// The entry of the area of all CPUs, or of columns in which several tasks may run, if there are some.
+    fn entry_of_cpus(&self) -> Option<Entry> {
+        if self.gathered.layout.folding.has_area {
+            return Entry::new(
+                "<path class=\"b0\" d=\"M0 6h30v6h-30z\"/><path class=\"b1\" d=\"M0 2h30v4h-30z\"/>",
+                "CPUs that ran, by group; the rest was idle",
+            );
+        }
+        entry_if(
+            self.has_several(),
+            "<path class=\"several\" d=\"M0 0h30v12h-30z\"/>",
+            "several of them in turn",
+        )
     }
 
     fn entry_of_waits(&self, place: usize) -> Option<Entry> {

@@ -2,6 +2,7 @@
 //! long waits and the ejection. It draws the sums of `scxsim_sums` in the layout of `scxsim_layout`.
 #![tactic(auto)]
 
+mod areas;
 mod axes;
 mod bounds;
 mod cells;

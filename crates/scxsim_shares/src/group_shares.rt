@@ -61,7 +61,7 @@ impl GroupShare {
         }
     }
 
-    /// What was due to it last counts for its quota.
+    /// Takes from its quota what was due to it last.
     pub(crate) fn use_allowance(&mut self) {
         let amount = self.amount;
         if let Some(allowance) = &mut self.allowance {

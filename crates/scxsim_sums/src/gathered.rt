@@ -43,7 +43,7 @@ impl Gathered {
         let rows = layout.rows.len();
         let columns = layout.scale.columns as usize;
         let cpus = layout.cpu_row(workload.cpus() as usize).saturating_add(1);
-        let sums = Sums::new(alloc, rows, cpus, columns)?;
+        let sums = Sums::new(alloc, rows, cpus, columns, layers_of_area(&layout))?;
         let bars = Bars::new(alloc, rows)?;
         let queues = DrawnQueues::new(alloc)?;
         let shares = Shares::new(alloc, workload, &layout)?;
@@ -82,11 +82,24 @@ impl Gathered {
     fn add_piece(&mut self, piece: Piece, doing: Doing) {
         match doing {
             Doing::Runs(cpu) => {
-                self.add_cpu_run(piece, cpu);
+                if self.layout.folding.has_area {
+                    self.add_to_area(piece);
+                } else {
+                    self.add_cpu_run(piece, cpu);
+                }
                 self.add_run(piece, doing);
             }
             Doing::Waits(queue) => self.add_wait(piece, queue),
         }
+    }
+
+    /// Keeps a run in the area of all CPUs.
+    #[inline(always)]
+    fn add_to_area(&mut self, piece: Piece) {
+        let layer = self.layout.layer(piece.place);
+        let scale = self.layout.scale;
+        self.sums.add_run(0, piece.ms);
+        self.sums.area.add(layer, scale, piece.since, piece.until);
     }
 
     /// Keeps a run in the row of its CPU, as a bar or in columns.
@@ -212,6 +225,14 @@ impl Gathered {
         }
     }
 
+    /// Adds the idle times of CPUs to the area of all of them, if there is one.
+    pub(crate) fn end_area(&mut self) {
+        if self.layout.folding.has_area {
+            let columns = self.layout.scale.columns;
+            self.sums.add_idle_layers(columns, self.layout.layers());
+        }
+    }
+
     /// The run is over, at that moment.
     pub(crate) fn end(&mut self, moment: u64, homes: &[u32]) {
         self.shares.end(moment);
@@ -222,5 +243,14 @@ impl Gathered {
             &self.sums,
             &self.bars,
         );
+    }
+}
+
+/// The number of layers in the area of all CPUs, with those of idle times; none if there is no area.
+fn layers_of_area(layout: &Layout) -> usize {
+    if layout.folding.has_area {
+        layout.layers().saturating_add(2)
+    } else {
+        0
     }
 }

@@ -76,6 +76,7 @@ impl Gathering {
         if let Some(idles) = &quota_idles {
             idles.end(&gathered.layout, &mut gathered.sums.parked);
         }
+        gathered.end_area();
         drop(activities);
         drop(waiters);
         drop(idles);
