@@ -100,7 +100,14 @@ impl Stretch {
             part.until = window.to.saturating_mul(2);
             part.end = End::CutOff;
         }
-        (moment_of(part.since) < moment_of(part.until)).then_some(part)
+        part.is_shown().then_some(part)
+    }
+
+    /// True if it isn't empty, or is a wait that goes on as the run ends and began by the clock before.
+    #[inline(always)]
+    fn is_shown(self) -> bool {
+        moment_of(self.since) < moment_of(self.until)
+            || self.since < self.until && matches!(self.end, End::RunOver)
     }
 
     /// When it began and its length, as a page has them: 4 bytes each, low byte first. The first byte is the

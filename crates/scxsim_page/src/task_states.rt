@@ -70,11 +70,12 @@ impl TaskStates {
             Some(before) => before == NO_QUEUE,
             None => true,
         };
+        let since = task.since_in(now, before, queue);
         let stretch = task.leave(number, now, before, queue);
         if is_new || queue < LOCAL_NUMBER {
             task.queue = queue;
         }
-        task.begin(now, Doing::Waits { queue });
+        task.begin(since, Doing::Waits { queue });
         stretch
     }
 
@@ -124,6 +125,18 @@ impl TaskState {
         }
     }
 
+    /// The beginning of its wait in a queue. If its wait in the queue before had time by the clock alone, and so has no
+    /// stretch, it is the beginning of that wait.
+    #[inline(always)]
+    fn since_in(&self, now: u64, before: Option<u16>, queue: u16) -> u64 {
+        let goes_on = waits_for_cpu(before) && queue != PARKED_NUMBER;
+        if goes_on && moment_of(self.since) == moment_of(now) {
+            self.since
+        } else {
+            now
+        }
+    }
+
     /// Ends the wait in the queue in which it waited before, if it did, as it comes to another.
     #[inline(always)]
     fn leave(&mut self, number: u16, now: u64, before: Option<u16>, queue: u16) -> Option<Stretch> {
@@ -135,7 +148,8 @@ impl TaskState {
         stretch
     }
 
-    /// Ends its activity. There is no stretch of no time.
+    /// Ends its activity. There is no stretch of no time, but for a wait that goes on as the run ends: by the clock it
+    /// began before.
     #[inline(always)]
     fn end(&mut self, number: u16, now: u64, end: End) -> Option<Stretch> {
         let (place, queue) = match self.doing {
@@ -144,7 +158,7 @@ impl TaskState {
             Doing::Runs { place } => (place, self.queue),
         };
         self.doing = Doing::Neither;
-        if moment_of(now) <= moment_of(self.since) {
+        if !self.is_kept(now, place, end) {
             return None;
         }
         let beginning = self.beginning;
@@ -158,6 +172,21 @@ impl TaskState {
             beginning,
             end,
         })
+    }
+
+    /// True if its activity has time up to now, or is a wait that has some by the clock as the run ends.
+    #[inline(always)]
+    fn is_kept(&self, now: u64, place: u8, end: End) -> bool {
+        moment_of(self.since) < moment_of(now)
+            || self.since < now && place == NOWHERE && matches!(end, End::RunOver)
+    }
+}
+
+/// True if a task waits in a queue, and isn't parked.
+fn waits_for_cpu(queue: Option<u16>) -> bool {
+    match queue {
+        Some(queue) => queue != PARKED_NUMBER,
+        None => false,
     }
 }
 

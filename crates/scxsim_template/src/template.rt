@@ -87,7 +87,7 @@ input { width: 110px; } #found:empty { display: none; }\n#facts { display: none;
 <div id=\"tip\" role=\"tooltip\" hidden></div>\n<div id=\"live\" aria-live=\"polite\"></div>\n";
 
 /// The text of a page after its data.
-pub const CODE: &str = "<script>\n\"use strict\";\n\
+pub const CODE: &str = "<script>\n\"use strict\";\nconst MOST_CPUS = 16;  // more fold at first\n\
 const NOWHERE = 255, GLOBAL = 16, HELD = 17, BUILTIN = 18, PARKED = 19, LOCAL = 20, NO_QUEUE = 65535;\n\
 const WHY_RUN = [\"the run was over\", \"it was stopped: its slice was used up and another came\", \"it went to sleep\",\n\
 \"its group had used its quota, and it was parked\", \"\", \"\", \"\", \"this part of the run was over\"];\n\
@@ -143,16 +143,20 @@ const from = cpuFrom[i], until = from + cpuLength[i];\ncpuBefore[i + 1] = cpuBef
 cpuWaitedBefore[i + 1] = cpuWaitedBefore[i] + someWaited[until] - someWaited[from];\n\
 run.idleByQuota -= onlyParked[until] - onlyParked[from];\n}\n}\n\
 run.idle = Array.from({ length: processors }, (_, cpu) => figuresOfCpu(run, cpu, 0, duration).waits);\n\
-run.waitsOnSome = run.tasks.some(({ cpus }) => cpus) ? waitsOnIdle(run) : run;\n}\n\
-function waitsOnIdle({ processors, duration, cpuFrom, cpuLength, cpuStart, waitsOn, onlyParked }) {\n\
-const counts = new Uint8Array(duration), someWaited = new Uint32Array(duration + 2);\n\
-for (let cpu = 0; cpu < processors; cpu++) {\nfor (let i = cpuStart[cpu], ms = 0; i <= cpuStart[cpu + 1]; i++) {\n\
-const isLast = i === cpuStart[cpu + 1], sums = waitsOn[cpu].someWaited;\n\
-for (const end = isLast ? duration : cpuFrom[i]; ms < end; ms++) counts[ms] |= sums[ms + 1] - sums[ms];\n\
-if (!isLast) ms += cpuLength[i];\n}\n}\n\
-for (let ms = 0; ms <= duration; ms++) someWaited[ms + 1] = someWaited[ms] + (counts[ms] ?? 0);\n\
-return { duration, someWaited, onlyParked };\n}\nconst mayRunOn = ({ cpus }, cpu) => !cpus || cpus.includes(cpu);\n\
-function waitsOnCpus(run) {\nconst bound = run.tasks.filter(({ cpus }) => cpus), counted = new Map();\n\
+run.lost = lostTimes(run);\n}\nfunction lostTimes(run) {\n\
+const { duration, waitsOn } = run, [someWaited, onlyParked] = [0, 1].map(() => new Uint32Array(duration + 2));\n\
+for (const waits of new Set(waitsOn)) {\nconst idle = countIdle(run, (cpu) => waitsOn[cpu] === waits);\n\
+for (let ms = 0, waited = 0, parked = 0; ms < duration; ms++) {\n\
+someWaited[ms + 1] += waited += idle[ms] * (waits.someWaited[ms + 1] - waits.someWaited[ms]);\n\
+onlyParked[ms + 1] += parked += idle[ms] * (waits.onlyParked[ms + 1] - waits.onlyParked[ms]);\n}\n}\n\
+return { duration, someWaited, onlyParked };\n}\n\
+function countIdle({ processors, duration, cpuFrom, cpuLength, cpuStart }, counts) {\n\
+const idle = new Int32Array(duration + 1);\nfor (let cpu = 0; cpu < processors; cpu++) {\n\
+if (!counts(cpu)) continue;\nidle[0]++;\n\
+for (let i = cpuStart[cpu]; i < cpuStart[cpu + 1]; i++) { idle[cpuFrom[i]]--; idle[cpuFrom[i] + cpuLength[i]]++; }\n\
+}\nfor (let ms = 1; ms <= duration; ms++) idle[ms] += idle[ms - 1];\nreturn idle;\n}\n\
+const mayRunOn = ({ cpus }, cpu) => !cpus || cpus.includes(cpu);\nfunction waitsOnCpus(run) {\n\
+const bound = run.tasks.filter(({ cpus }) => cpus), counted = new Map();\n\
 return Array.from({ length: run.processors }, (_, cpu) => {\n\
 const key = bound.map((task) => mayRunOn(task, cpu) ? 1 : 0).join(\"\");\n\
 if (!counted.has(key)) counted.set(key, bound.length > 0 ? countWaits(run, (task) => mayRunOn(task, cpu)) : run);\n\
@@ -222,13 +226,13 @@ total -= weights[g];\nisOver = false;\n}\n}\n\
 for (const g of groups) if (isOpen[g]) parts[g] = weights[g] * rest / total;\n}\n\
 const beginsPeriod = ({ period }, at, cell) => Math.floor(at / period) > Math.floor((at - cell) / period);\n\
 function sumQueues(run) {\nconst { duration, count, from, length, cpu, queue } = run, used = new Map();\n\
-for (let i = 0; i < count; i++) if (cpu[i] === NOWHERE && queue[i] !== PARKED) used.set(Math.min(queue[i], LOCAL), null);\n\
+for (let i = 0; i < count; i++) if (length[i] > 0 && cpu[i] === NOWHERE && queue[i] !== PARKED) used.set(Math.min(queue[i], LOCAL), null);\n\
 let cell = 1;\nwhile (used.size * (duration / cell) > 4e6) cell *= 2;\n\
 const cells = Math.ceil(duration / cell), row = cells + 1;\n\
 run.tracks = [...used.keys()].sort((one, other) => one - other).map((queue) => ({ queue, name: trackName(run, queue), cell, cells,\n\
 sums: new Uint32Array(row), offsets: new Int32Array(row + 1), counts: new Int32Array(row + 1) }));\n\
 for (const track of run.tracks) used.set(track.queue, track);\nfor (let i = 0; i < count; i++) {\n\
-if (cpu[i] === NOWHERE && queue[i] !== PARKED) addInterval(used.get(Math.min(queue[i], LOCAL)), cell, from[i], from[i] + length[i]);\n\
+if (length[i] > 0 && cpu[i] === NOWHERE && queue[i] !== PARKED) addInterval(used.get(Math.min(queue[i], LOCAL)), cell, from[i], from[i] + length[i]);\n\
 }\nfor (const track of run.tracks) sumTrack(track, row);\n}\n\
 function addInterval({ offsets, counts }, cell, from, until) {\n\
 const first = Math.ceil(from / cell), last = Math.ceil(until / cell);\n\
@@ -527,22 +531,27 @@ const place = at * pixelsWide + x;\nif (at >= first && at < last) pixels[place] 
 else if (at >= top) pixels[place] = at < top + thick ? palette.edges[colour] : palette.tints[colour];\n\
 else if (lack && at > line && tile[Math.floor(at / thick) % TILE * TILE + high.columns[x]]) pixels[place] = lack;\n}\n\
 }\nfunction drawAllProcessors(y, tall) {\n\
-const { sums, groups, processors, duration } = run, offset = plotLeft(), width = plotWidth(), step = perPixel();\n\
-const leaves = [...groups.keys()].filter((g) => groups[g].tasks.length > 0);\nclearBands();\n\
-for (let x = 0; x < width; x++) {\nconst from = view.from + x * step, until = Math.min(duration, from + step);\n\
-const share = within(sums, sums.busy, 0, from, until) / step / processors;\n\
-if (share < 0.99) hatchColumn(run.waitsOnSome, offset + x, from, until, Math.min(1, 2 * (1 - share)));\n}\n\
-putBand(high, y, tall);\nstackGroups(leaves, y + tall, tall / step / processors);\n}\n\
-function stackGroups(leaves, bottom, scale) {\n\
-const { sums, duration, groups } = run, offset = plotLeft(), width = plotWidth(), step = perPixel();\n\
-const ran = leaves.map((g) => gridUntil(sums, sums.ran, g * sums.row, view.from));\n\
-const colours = leaves.map((g) => leaves.length > 1 ? palette.fills[colourOf(groups[g].tasks[0])] : palette.several);\n\
-for (let x = 0; x < width; x++) {\nconst time = Math.min(duration, view.from + (x + 1) * step);\n\
-let sum = 0, before = bottom;\nfor (let k = 0; k < leaves.length; k++) {\n\
-const ranNow = gridUntil(sums, sums.ran, leaves[k] * sums.row, time);\nsum += ranNow - ran[k];\nran[k] = ranNow;\n\
-const top = bottom - Math.round(sum * scale);\n\
-for (let at = Math.max(0, top); at < Math.min(pixelsHigh, before); at++) pixels[at * pixelsWide + offset + x] = colours[k];\n\
-before = top;\n}\n}\n}\nfunction drawGroupSum(g, y, tall) {\n\
+const { sums, groups, lost } = run, leaves = [...groups.keys()].filter((g) => groups[g].tasks.length > 0);\n\
+const layers = leaves.map((g) => layerOf((time) => gridUntil(sums, sums.ran, g * sums.row, time), ...coloursOfGroup(g, leaves)));\n\
+layers.push(layerOf((time) => waitedUntil(lost, time), palette.wrong, palette.wrong, true));\n\
+if (run.idleByQuota > 0) layers.push(layerOf((time) => quotaUntil(lost, time), palette.parked, palette.parked, true));\n\
+for (let x = 0; x < plotWidth(); x++) drawLayers(layers, x, y, tall);\n}\n\
+const layerOf = (until, colour, edge, isHatched = false) => ({ until, colour, edge, isHatched, before: until(view.from) });\n\
+function coloursOfGroup(g, leaves) {\nconst colour = colourOf(run.groups[g].tasks[0]);\n\
+return leaves.length > 1 ? [palette.fills[colour], palette.edges[colour]] : [palette.several, palette.several];\n}\n\
+function drawLayers(layers, x, y, tall) {\n\
+const step = perPixel(), time = Math.min(run.duration, view.from + (x + 1) * step), scale = tall / step / run.processors;\n\
+let sum = 0, bottom = y + tall;\nfor (const layer of layers) {\n\
+const now = layer.until(time), added = now - layer.before;\nsum += added;\nlayer.before = now;\n\
+let top = Math.max(y, y + tall - Math.round(sum * scale));\n\
+if (layer.isHatched && added > 0.001 * step) top = Math.max(y, Math.min(top, bottom - high.grain));\n\
+if (top < bottom) drawLayer(layer, plotLeft() + x, top, bottom);\nbottom = Math.min(bottom, top);\n}\n}\n\
+function drawLayer({ colour, edge, isHatched }, x, top, bottom) {\n\
+const tile = TILES[WRONG_TILE], { grain, columns } = high, hasEdge = bottom - top >= 3 * grain;\n\
+for (let at = Math.max(0, top); at < Math.min(pixelsHigh, bottom); at++) {\n\
+if (isHatched && !tile[Math.floor(at / grain) % TILE * TILE + columns[x]]) continue;\n\
+pixels[at * pixelsWide + x] = hasEdge && at < top + grain ? edge : colour;\n}\n}\n\
+function drawGroupSum(g, y, tall) {\n\
 const { sums } = run, start = g * sums.row, offset = plotLeft(), width = plotWidth(), step = perPixel();\n\
 const { all, first } = run.groups[g], most = Math.min(all, run.processors), shades = palette.tasks[colourOf(first)];\n\
 let ran = gridUntil(sums, sums.ran, start, view.from), waited = gridUntil(sums, sums.waited, start, view.from);\n\
@@ -557,16 +566,16 @@ if (length <= 0) continue;\n\
 const top = y + tall - Math.max(high.grain, Math.round(Math.min(1, length / track.most) * tall));\n\
 fill(offset + x, offset + x + 1, top, y + tall, palette.waitPaper);\n\
 fill(offset + x, offset + x + 1, top, top + high.grain, palette.wait);\n}\n\
-fill(offset, offset + width, y + tall, y + tall + high.grain, palette.line);\n}\nconst MOST_TASK_ROWS = 128;\n\
-function makeRows() {\n\
-const rows = [], many = run.tasks.length > 64, thin = run.processors > 16, strip = run.groups.length > 1;\n\
+fill(offset, offset + width, y + tall, y + tall + high.grain, palette.line);\n}\n\
+const MOST_TASK_ROWS = 128, MOST_CPU_ROWS = 32;\nfunction makeRows() {\n\
+const rows = [], many = run.tasks.length > 64, thin = run.processors > MOST_CPUS, strip = run.groups.length > 1;\n\
 const add = (row) => rows.push(row), addGroup = (g, depth) => {\nconst folded = view.folded.has(g);\n\
 add({ kind: \"group\", number: g, depth, folded, high: folded ? 50 : strip ? 34 : 24 });\nif (folded) return;\n\
 for (const child of run.groups[g].children) addGroup(child, depth + 1);\n\
 for (const task of run.groups[g].tasks) add({ kind: \"task\", number: task, depth: depth + 1, high: many ? 18 : 28 });\n\
 };\nconst addSection = (key, name, high) => {\nconst folded = view.folded.has(key);\n\
 add({ kind: \"section\", key, name, folded, high: folded ? high : 24 });\nreturn !folded;\n};\n\
-if (addSection(\"cpus\", run.processors === 1 ? \"CPU\" : run.processors + \" CPUs\", 56))\n\
+if (addSection(\"cpus\", run.processors === 1 ? \"CPU\" : run.processors + \" CPUs\", run.processors > MOST_CPU_ROWS ? 104 : 56))\n\
 for (let cpu = 0; cpu < run.processors; cpu++) add({ kind: \"cpu\", number: cpu, high: thin ? 9 : 28 });\n\
 if (run.tracks.length > 0 && addSection(\"queues\", \"Queues\", 24))\n\
 run.tracks.forEach((_, number) => add({ kind: \"track\", number, high: 30 }));\n\
@@ -775,9 +784,9 @@ const { sums, duration, processors } = run;\nObject.assign(canvas, { width: wide
 const brush = canvas.getContext(\"2d\"), { several, wrong, ink } = palette.names, step = duration / (wide - left());\n\
 for (let x = 0; x < wide - left(); x++) {\n\
 const from = x * step, until = Math.min(duration, from + step), share = within(sums, sums.busy, 0, from, until) / step / processors;\n\
-const waits = (waitedUntil(run.waitsOnSome, until) - waitedUntil(run.waitsOnSome, from)) / step, high = Math.round(share * (OVERVIEW - 6));\n\
+const lost = (waitedUntil(run.lost, until) - waitedUntil(run.lost, from)) / step, high = Math.round(share * (OVERVIEW - 6));\n\
 paintBoxes(brush, [[several, left() + x, OVERVIEW - high, 1, high]]);\n\
-if (Math.min(waits, 1 - share) > 0.01) paintBoxes(brush, [[wrong, left() + x, 0, 1, 4]]);\n}\n\
+if (lost > 0.01) paintBoxes(brush, [[wrong, left() + x, 0, 1, 4]]);\n}\n\
 if (isEjectionShown()) paintBoxes(brush, [[wrong, left() + run.ended.at / step - 1, 0, 2, OVERVIEW]]);\n\
 Object.assign(brush, { fillStyle: ink, font: \"600 11px system-ui, sans-serif\", textBaseline: \"middle\" });\n\
 brush.fillText(run.begin > 0 || run.duration < run.ms ? \"All of the part\" : \"Whole run\", 6, OVERVIEW / 2);\n}\n\
@@ -840,12 +849,16 @@ const lines = [elsewhere.length > 0 ? \"no task waited that may run here\" : \"n
 if (elsewhere.length > 0) lines.push(\"bound to other CPUs: \" + firstNames(elsewhere));\n\
 return parked.length > 0 ? [...lines, \"parked, as a quota was used up: \" + firstNames(parked)] : lines;\n}\n\
 const firstNames = (names) => names.slice(0, 6).join(\", \") + (names.length > 6 ? \" and \" + (names.length - 6) + \" more\" : \"\");\n\
-function describeAllCpus(time) {\nlet busy = 0;\n\
-for (let cpu = 0; cpu < run.processors; cpu++) eachRun(run, cpu, time, Math.min(run.duration, time + 1), () => { busy++; });\n\
-return [busy + \" of \" + run.processors + \" CPUs ran at \" + momentText(time), ...(busy < run.processors ? waitingWords(time, {}) : [])];\n\
-}\nfunction choose(stretch) {\nview.chosen = stretch;\nredraw();\nsettleLater();\n\
-if (stretch) tellMeanwhile(stretch, describe(stretch));\nelse tellNothing();\n}\nfunction tellNothing() {\n\
-if (view.range) return tellRange();\nelement(\"chosen\").replaceChildren();\n\
+function describeAllCpus(time) {\n\
+const busy = new Map(), count = (group) => { busy.set(group, (busy.get(group) ?? 0) + 1); };\n\
+for (let cpu = 0; cpu < run.processors; cpu++)\n\
+eachRun(run, cpu, time, Math.min(run.duration, time + 1), (task) => count(run.tasks[task].group));\n\
+const all = [...busy.values()].reduce((sum, cpus) => sum + cpus, 0);\n\
+const groups = [...busy].sort((one, other) => other[1] - one[1]).map(([group, cpus]) => run.groups[group].name + \" on \" + cpus);\n\
+return [all + \" of \" + run.processors + \" CPUs ran at \" + momentText(time), ...(groups.length > 1 ? [firstNames(groups)] : []),\n\
+...(all < run.processors ? waitingWords(time, {}) : [])];\n}\nfunction choose(stretch) {\nview.chosen = stretch;\n\
+redraw();\nsettleLater();\nif (stretch) tellMeanwhile(stretch, describe(stretch));\nelse tellNothing();\n}\n\
+function tellNothing() {\nif (view.range) return tellRange();\nelement(\"chosen\").replaceChildren();\n\
 node(\"p\", \"Click a wait, or drag over the axis, to see who ran meanwhile.\", element(\"chosen\"), { class: \"faint\" });\n\
 }\nfunction node(name, words, parent, attributes = {}) {\nconst made = document.createElement(name);\n\
 made.textContent = words;\nfor (const [key, value] of Object.entries(attributes)) made.setAttribute(key, value);\n\
@@ -1054,7 +1067,7 @@ const WAIT_WORDS = { [HELD]: \"held by the policy\", [GLOBAL]: \"waits in the gl
 function legendItems() {\nconst { names } = palette, items = [], all = run.tracks.map(({ queue }) => queue);\n\
 const add = (words, tile, kind) => items.push([words, (brush) => paintTile(brush, TILES[tile], names[kind], names[kind + \"Paper\"])]);\n\
 items.push([run.isByTask ? \"runs (letter and colour: its task)\" : \"runs (letter: its task; colour: its group)\",\n\
-(brush) => paintBoxes(brush, [0, 1].flatMap(barBoxes))]);\n\
+(brush) => paintBoxes(brush, [0, 1].flatMap(barBoxes))]);\nif (run.processors > MOST_CPUS) addArea(items);\n\
 for (const queue of all) if (queue < LOCAL) add(WAIT_WORDS[queue] ?? \"waits in \" + queueName(run, queue), tileOf(queue), \"wait\");\n\
 if (all.some(isLocal)) add(\"waits in a CPU's own queue\", tileOf(LOCAL), \"wait\");\n\
 if (run.parkedBefore[run.count] > 0) add(\"parked: quota used up\", tileOf(PARKED), \"parked\");\n\
@@ -1066,6 +1079,11 @@ if (run.wakeTimes.length > 0) paint(\"wakes, in rows with room for all of them\"
 if (run.groups.length > 1) addShares(items);\n\
 items.push([\"less than a pixel: the fuller its colour, the more of it ran\", ({ canvas }) => {\n\
 canvas.style.background = `linear-gradient(90deg, transparent, ${names.several})`;\n}]);\nreturn items;\n}\n\
+function addArea(items) {\n\
+const isOne = run.groups.filter((group) => group.tasks.length).length === 1, { names } = palette;\n\
+const boxes = isOne ? [[names.several, 0, 5, 30, 9]] : [[names.tasks[0], 0, 9, 30, 5], [names.tasks[1], 0, 5, 30, 4]];\n\
+items.push([\"all CPUs as an area: those that ran\" + (isOne ? \"\" : \", by group\") + \"; hatched: idle while a task waits; the rest: idle\",\n\
+(brush) => { paintBoxes(brush, boxes); paintTile(brush, TILES[WRONG_TILE], names.wrong, names.paper, 2, 5); }]);\n}\n\
 const barBoxes = (k) => [[hexOf(palette.edges[k]), 16 * k, 0, 14, 14], [palette.names.tasks[k], 16 * k + 1, 1, 12, 12]];\n\
 function addShares(items) {\nconst { names } = palette, lack = (kind) => (brush) => {\n\
 paintBoxes(brush, [[names.tasks[3], 0, 8, 30, 6], [names.ink, 0, 3, 30, 1]]);\n\
@@ -1098,8 +1116,8 @@ element(\"nothing\").textContent = run.count > 0 ? \"No task ran \" + where + \"
 }\nconst LARGE = 4e6;\nfunction start() {\nrun = readRun();\nrun.isByTask = isByTask();\nview.until = run.duration;\n\
 const mean = run.cpuFrom.length ? run.cpuBefore[run.cpuFrom.length] / run.cpuFrom.length : 1;\n\
 view.window = Math.min(run.duration / 4, Math.max(10 * mean / Math.min(4, run.processors), run.duration / 150));\n\
-if (run.processors > 16) view.folded.add(\"cpus\");\n\
-if (run.processors > 16 || run.tracks.length > 4 || run.tasks.length > 64) view.folded.add(\"queues\");\n\
+if (run.processors > MOST_CPUS) view.folded.add(\"cpus\");\n\
+if (run.processors > MOST_CPUS || run.tracks.length > 4 || run.tasks.length > 64) view.folded.add(\"queues\");\n\
 foldLargest();\nconst most = Math.max(0, ...run.groups.map((group) => Math.max(group.share, group.due)));\n\
 view.top = most > 0.5 || most === 0 ? 1 : Math.ceil(most * 15) / 10;\n\
 palette = makePalette(matchMedia(\"(prefers-color-scheme: dark)\").matches);\nfillTitle();\nfillWaits();\n\
