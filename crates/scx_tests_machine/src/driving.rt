@@ -92,3 +92,35 @@ const BLOCKS: [Event; 14] = [
 fn blocks_have_their_order(rt: HostRuntime) {
     expect_events(&rt, CHANGES, &BLOCKS);
 }
+
+/// The task runs for ever.
+const ENDLESS: &str = "cpus = 1
+ms = 10
+group = [{ name = 'g' }]
+task = [{ name = 'a', group = 'g' }]
+";
+
+/// The rest of a run after its first two milliseconds, all in one go.
+#[test]
+fn quiet_milliseconds_pass_at_once(rt: HostRuntime) {
+    let workload = read_workload(rt.alloc(), ENDLESS).expect(&rt, "a workload");
+    let mut session = session_for(&rt, &workload);
+    let mut driver = Driver::new(rt.alloc(), &workload).expect(&rt, "a driver");
+    for &event in &[WAKE, TICK, MS, TICK, MS] {
+        expect_same(&rt, driver.next(&session.sim), Some(event), event);
+        session.run(&rt, &[event]);
+    }
+    driver.skip(&mut session.sim);
+    let sim = &session.sim;
+    expect_same(
+        &rt,
+        (sim.clock(), sim.events()),
+        (10, 21),
+        "clock and events",
+    );
+    expect_same(&rt, sim.run_ns_of(0), 10_000_000, "run time");
+    expect_same(&rt, driver.next(sim), None, "next");
+    drop(driver);
+    drop(session);
+    drop(workload);
+}

@@ -74,7 +74,7 @@ pub(crate) fn execute<L: Listener, W: Out>(
         RunCommand::Story => story(alloc, policy, workload, "a", listener, out),
         RunCommand::Step => step(alloc, policy, workload, "4", listener, out),
         RunCommand::Gantt => gantt(alloc, SHEET, policy, workload, None, listener, out),
-        RunCommand::Timeline => timeline(alloc, "a on b", policy, workload, listener, out),
+        RunCommand::Timeline => timeline(alloc, "a on b", policy, workload, None, listener, out),
         RunCommand::View => view(alloc, PATHS, policy, workload, None, listener, out),
         RunCommand::Picture => picture(alloc, "a on b", policy, workload, None, listener, out),
     }
