@@ -190,7 +190,7 @@ pub(crate) fn forms() -> &'static [Form] {
     &FORMS
 }
 
-const FORMS: [Form; 30] = [
+const FORMS: [Form; 31] = [
     Form {
         name: "verify",
         kind: Kind::Policy(PolicyCommand::Verify),
@@ -288,6 +288,12 @@ const FORMS: [Form; 30] = [
         example: "Example: scxsim timeline examples/policies/short_slices.toml examples/workloads/two_tasks.toml > timeline.json\nwrites:  a file to open in ui.perfetto.dev",
     },
     Form {
+        name: "timeline-part",
+        kind: Kind::Part(Account::Timeline),
+        about: "Run a workload, and write a trace of a part of the run for Perfetto",
+        example: "Example: scxsim timeline-part examples/policies/short_slices.toml examples/workloads/two_tasks.toml 1 3 > part.json\nwrites:  the trace of the two milliseconds from 1 to 3",
+    },
+    Form {
         name: "picture",
         kind: Kind::Run(Account::Picture),
         about: "Run a workload, and draw the run as an SVG picture",
@@ -344,7 +350,7 @@ const FORMS: [Form; 30] = [
     Form {
         name: "explore-few",
         kind: Kind::ExploreFew,
-        about: "Try every sequence with at most K wakes and sleeps, and print the shortest one for each problem",
+        about: "Try every sequence of events with at most K wakes and sleeps, and print the shortest one for each problem",
         example: "Example: scxsim explore-few examples/policies/simple_vtime.toml examples/workloads/three_tasks.toml ms 64 4\nprints:  the lines of explore, and near the end\n         stall none up to 64 ms with 4 wakes and sleeps\ndocs/EXPLORE.md explains these lines.",
     },
     Form {

@@ -5,7 +5,7 @@ use std::alloc::{AllocError, Global};
 use std::convert::AsStr;
 
 /// The version. It is written here alone: scripts ask the program for it.
-const VERSION: &str = "0.18.0";
+const VERSION: &str = "0.19.0";
 
 /// The request of a command line. `clap` refuses words that name no command and its files, so there is a
 /// request wherever it accepts them.
@@ -17,11 +17,26 @@ pub fn read_words<'a, S: AsStr>(
     alloc: Global,
     words: &'a [S],
 ) -> Result<Option<Request<'a>>, Error> {
-    let matches = scxsim(alloc)?.try_get_matches_from(words)?;
-    match matches.subcommand() {
-        Some((name, command)) => Ok(request_of(name, command)),
-        None => Ok(None),
+    if let Some(form) = named_in(words) {
+        let alone = with_command(alloc, program(alloc), form)?;
+        if let Ok(matches) = alone.try_get_matches_from(words) {
+            return Ok(request_in(&matches));
+        }
     }
+    let matches = scxsim(alloc)?.try_get_matches_from(words)?;
+    Ok(request_in(&matches))
+}
+
+/// The command that the word after the program's names. A program of this command alone accepts what the program
+/// of all accepts, and takes less to make; what is refused is read again by that of all, whose messages name others.
+fn named_in<S: AsStr>(words: &[S]) -> Option<&'static Form> {
+    form_named(words.get(1)?.as_str())
+}
+
+/// The request of words that were accepted.
+fn request_in<'a>(matches: &ArgMatches<'a>) -> Option<Request<'a>> {
+    let (name, command) = matches.subcommand()?;
+    request_of(name, command)
 }
 
 /// The command of this name, with the files that its arguments name.
@@ -86,7 +101,16 @@ fn form_named(name: &str) -> Option<&'static Form> {
 
 /// The program with its commands and their arguments.
 fn scxsim<'a>(alloc: Global) -> Result<Command<'a>, AllocError> {
-    let mut program = Command::new(alloc, "scxsim")
+    let mut all = program(alloc);
+    for form in forms() {
+        all = with_command(alloc, all, form)?;
+    }
+    Ok(all)
+}
+
+/// The program without its commands.
+fn program<'a>(alloc: Global) -> Command<'a> {
+    Command::new(alloc, "scxsim")
         .about(
             "Verify CPU scheduling policies in BPF, and run workloads under them on simulated CPUs",
         )
@@ -95,11 +119,7 @@ fn scxsim<'a>(alloc: Global) -> Result<Command<'a>, AllocError> {
             "scxsim help COMMAND explains the arguments and the output of a command, with an example.\nIf a file is refused, one line on standard output says why, and the status is 1;\ndocs/REFUSALS.md explains each refusal.",
         )
         .subcommand_required(true)
-        .arg_required_else_help(true);
-    for form in forms() {
-        program = with_command(alloc, program, form)?;
-    }
-    Ok(program)
+        .arg_required_else_help(true)
 }
 
 /// The program with one command more.
