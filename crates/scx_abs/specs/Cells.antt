@@ -50,12 +50,12 @@ no_bytes = each_byte (λ j. false)
 abbrev pub common : List Bool → List Bool → List Bool
 common a b = each_byte (λ j. is_written a j && is_written b j)
 
--- the set with so many bytes from one on
+-- the set with that many bytes from one on
 abbrev pub with_bytes : List Bool → ℕ → ℕ → List Bool
 with_bytes set first count =
     each_byte (λ j. is_written set j || (nat_le first j && nat_lt j (first + count)))
 
--- so many bytes from one on are known to be written
+-- that many bytes from one on are known to be written
 abbrev pub all_written : List Bool → ℕ → ℕ → Bool
 all_written set j zero = true
 all_written set j (suc n) = is_written set j && all_written set (j + 1) n

@@ -68,18 +68,18 @@ size_of (Some s) = s.value_size
 abbrev pub element_size : List Shape → ℕ → ℕ
 element_size shapes m = size_of (slice_get shapes m)
 
--- the offset, if it lies in so many bytes of memory or right behind the last
+-- the offset, if it lies in that many bytes of memory or just after the last
 abbrev pub offset_within : ℕ → Option ℕ → Result ℕ Why
 offset_within size at = ok_or (within size at) OutOfBounds
 
--- the offset, if n bytes from it on lie in so many bytes of memory and it is a multiple of n
+-- the offset, if n bytes from it on lie in that many bytes of memory and it is a multiple of n
 abbrev pub offset_for : ℕ → ℕ → Option ℕ → Result ℕ Why
 offset_for size n None = Err OutOfBounds
 offset_for size n (Some at) =
     if nat_le (at + n) size then if nat_eq (at % n) 0 then Ok at else Err Misaligned
     else Err OutOfBounds
 
--- whether, that distance on from each of the offsets in an element of so many bytes, n bytes lie in
+-- whether, that distance on from each of the offsets in an element of that size, n bytes lie in
 -- it and the place is a multiple of n
 abbrev pub offsets_for : ℕ → ℕ → Range → ℤ → Result (Unit {0}) Why
 offsets_for size n r k =

@@ -24,7 +24,7 @@ use Rattle.scx_isa_semantics.specs.Arguments.{FitsCallback}
 use Rattle.scx_abs.specs.Stands.{IsMember}
 use Rattle.scx_abs.specs.Rules.{null_test, rule}
 
--- a state flows there, and stands for this one
+-- a state flows there, and describes this one
 abbrev pub Receives : List Shape → Option AbsState → Machine → Type 0
 Receives shapes None m = ⊥
 Receives shapes (Some a) m = IsMember shapes a m
@@ -72,13 +72,13 @@ PlainRulesAreSound = RulesAreSoundFor (λ i. IsFalse (is_call_or_null_test i))
 abbrev pub CallsAndNullTestsAreSound : Type 0
 CallsAndNullTestsAreSound = RulesAreSoundFor (λ i. IsTrue (is_call_or_null_test i))
 
--- A callback's start state stands for all states in which it may begin.
+-- A callback's start state describes all states in which it may begin.
 abbrev pub StartIsSound : Type 0
 StartIsSound =
     (shapes : List Shape) (c : Callback) (a : Arguments) (maps : Maps)
     → HasShapes shapes maps → FitsCallback c a → IsMember shapes (start_of c) (start a maps)
 
--- What covers an abstract state stands for all that it stands for.
+-- What covers an abstract state describes all that it describes.
 abbrev pub CoversMore : Type 0
 CoversMore =
     (shapes : List Shape) (b a : AbsState) (m : Machine)

@@ -1,5 +1,5 @@
 -- The rule of each instruction: what it needs of the abstract state before it, check by check,
--- and what flows on from it. A check that fails gives its refusal, and the checks behind it aren't
+-- and what flows on from it. A check that fails gives its refusal, and the checks after it aren't
 -- looked at. A register that is written is looked at first, then the registers that are read, the
 -- destination before the source, then the address, and then the value that is stored.
 use Rattle.std.specs.Prelude.{ℕ, ◌/◌, ◌%◌, ℤ, pos, unsigned_abs, Bool, true, false, ◌&&◌, nat_eq, nat_lt, List, length, Option, Some, None, option_map, Result, Ok, Err, if◌then◌else◌}
@@ -56,7 +56,7 @@ abbrev pub in_element : ℕ → Option Range → Result Kind Why
 in_element m None = Err OutOfBounds
 in_element m (Some r) = Ok (Elem m r)
 
--- a pointer that is moved stays in its memory, or comes to its end, right behind the last byte
+-- a pointer that is moved stays in its memory, or comes to its end, just after the last byte
 abbrev pub moved_by : List Shape → Kind → Option ℤ → Result Kind Why
 moved_by shapes (Stack o) (Some k) = do
   to ← offset_within stack_size (at_distance o k)
@@ -135,7 +135,7 @@ abbrev pub field_area : Option Field → Result Area Why
 field_area None = Err TaskField
 field_area (Some f) = Ok (InTask f)
 
--- the memory that an address means, for so many bytes
+-- the memory that an address means, for that many bytes
 abbrev pub area_of : List Shape → Kind → ℤ → ℕ → Result Area Why
 area_of shapes (Stack o) offset n = do
   at ← offset_for stack_size n (at_distance o offset)

@@ -27,7 +27,7 @@ use Rattle.scx_abs.specs.States.{kind_at, cell_at}
 abbrev pub HasElement : Maps → ℕ → ℕ → Type 0
 HasElement maps m i = i < length (elements maps m)
 
--- the kind stands for the value
+-- the kind describes the value
 abbrev pub Stands : Maps → Kind → Value → Type 0
 Stands maps Unusable v = Unit {0}
 Stands maps (Num r) (value.Number n) = IsIn n r
@@ -49,8 +49,8 @@ IsByte (byte.Byte b) = b < 256
 IsByte byte.Unwritten = ⊥
 IsByte (byte.Part p j) = ⊥
 
--- The cell stands for the eight bytes from an offset on: those of its set hold numbers, or all
--- eight are those of a value that its kind stands for. Null is stored as eight zero bytes.
+-- The cell describes the eight bytes from an offset on: those of its set hold numbers, or all
+-- eight are those of a value that its kind describes. Null is stored as eight zero bytes.
 abbrev pub CellStands : Maps → Cell → memory.Stack → ℕ → Type 0
 CellStands maps (Bytes set) stack at =
     (j : ℕ) → j < 8 → IsTrue (is_written set j) → IsByte (stack (at + j))
@@ -58,7 +58,7 @@ CellStands maps (Pointer k) stack at =
     (v : Value) × Stands maps (kind_of k) v
     × (value_bytes DoubleWord v ≡ Some (bytes_at stack at 8))
 
--- the abstract state stands for the state of a program with maps of these shapes
+-- the abstract state describes the state of a program with maps of these shapes
 pub record IsMember (shapes : List Shape) (a : AbsState) (m : Machine) : Type 0 where
   pub registers : (r : ℕ) → Stands m.maps (kind_at a r) (m.registers r)
   pub cells : (c : ℕ) → CellStands m.maps (cell_at a c) m.stack (8 * c)

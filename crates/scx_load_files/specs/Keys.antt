@@ -1,5 +1,5 @@
 -- Unknown keys as paths show them, each in one line: as they are, or where a control character
--- stands in them, as a basic string (TOML 1.1, "String").
+-- is in them, as a basic string (TOML 1.1, "String").
 use Rattle.std.specs.Prelude.{ℕ, ◌/◌, ◌%◌, Bool, false, ◌||◌, ◌==◌, nat_lt, if◌then◌else◌, List, [], ◌∷◌, ◌++◌, codes, chars, encode_utf8, flat_map}
 use Rattle.std.specs.Fmt.{digit_glyph}
 use Rattle.std.specs.List.{list_any}

@@ -29,7 +29,7 @@ module _ {F : Type 0} (g : Shared F (Callback × (Code × Unit {0})) (Result Ver
 
   -- one that was made is verified
   verified_at : Verifies → (b : Callback) (p : Option Code) (v : Option VerifiedProgram) → Made g f b p v → IsVerified (context_of text b) p v
-  verified_at verifies b None None made = record { code = refl; as_callback = tt; for_maps = tt; by_rules = tt; accepted = tt }
+  verified_at verifies b None None made = record { code = refl; in_context = tt; as_callback = tt; for_maps = tt; by_rules = tt; accepted = tt }
   verified_at verifies b None (Some v) made = absurd made
   verified_at verifies b (Some x) None made = absurd made
   verified_at verifies b (Some x) (Some v) made = verifies b x v made

@@ -21,6 +21,11 @@ use Rattle.scx_load_policies.specs.Policies.{PolicyFile, program_of}
 abbrev pub context_of : PolicyFile → Callback → Context
 context_of text b = by_rules text.rules (context b text.shapes)
 
+-- the program, if there is one, was verified in that context
+abbrev pub IsIn : Context → Option VerifiedProgram → Type 0
+IsIn context None = ⊤
+IsIn context (Some p) = p.context ≡ context
+
 -- the program, if there is one, has a typing in that context
 abbrev pub IsAccepted : Context → Option Code → Type 0
 IsAccepted context None = ⊤
@@ -63,7 +68,8 @@ abbrev pub code_of : Option VerifiedProgram → Option Code
 code_of v = option_map (λ p. p.code) v
 
 -- the policy of these programs, which has them all, each verified as its callback, for these maps
--- and by these rules, with this timeout, these ticks and that number of timers
+-- and by these rules, with this timeout, these ticks and that number of timers; but for the seed of
+-- its random numbers nothing of it is left open
 pub record IsBuilt (text : PolicyFile) (policy : PolicyState) : Type 0 where
   pub shapes : policy.shapes ≡ text.shapes
   pub timeout : policy.timeout_ms ≡ text.timeout_ms
@@ -72,6 +78,7 @@ pub record IsBuilt (text : PolicyFile) (policy : PolicyState) : Type 0 where
   pub idle : policy.keeps_idle ≡ text.keeps_idle
   pub timers : policy.timers ≡ text.timers
   pub programs : (b : Callback) → code_of (machine.program_of policy b) ≡ program_of text b
+  pub contexts : (b : Callback) → IsIn (context_of text b) (machine.program_of policy b)
   pub accepted : (b : Callback) → IsAccepted (context_of text b) (program_of text b)
   pub as_callbacks : machine.AreAs policy.callbacks
   pub for_maps : machine.HaveMaps policy.shapes policy.callbacks
@@ -83,6 +90,7 @@ pub record IsBuilt (text : PolicyFile) (policy : PolicyState) : Type 0 where
 pub record IsVerified (context : Context) (program : Option Code) (v : Option VerifiedProgram) :
     Type 0 where
   pub code : code_of v ≡ program
+  pub in_context : IsIn context v
   pub as_callback : machine.IsAs context.callback v
   pub for_maps : machine.HasMaps context.defs v
   pub by_rules : machine.IsBy context.rules v

@@ -16,7 +16,7 @@ state_of states (Some i) = slice_get states i
 abbrev pub known_of : List (Option ℕ) → List AbsState → List (Option AbsState)
 known_of indices states = map (λ o. state_of states o) indices
 
--- of so many states each is for one slot at most, and the free ones for none
+-- of that many states each is for one slot at most, and the free ones for none
 pub record IsApart (indices : List (Option ℕ)) (free : List ℕ) (count : ℕ) : Type 0 where
   pub within : (t i : ℕ) → index_at indices t ≡ Some i → i < count
   pub once : (s t i : ℕ) → index_at indices s ≡ Some i → index_at indices t ≡ Some i → s ≡ t
@@ -24,7 +24,7 @@ pub record IsApart (indices : List (Option ℕ)) (free : List ℕ) (count : ℕ)
   pub free_once : (j k i : ℕ) → slice_get free j ≡ Some i → slice_get free k ≡ Some i → j ≡ k
   pub free_apart : (j t i : ℕ) → slice_get free j ≡ Some i → index_at indices t ≡ Some i → ⊥
 
--- a state was kept at a free index, or behind the others
+-- a state was kept at a free index, or after the others
 abbrev pub IsPlacedAt : List AbsState → List ℕ → ℕ → AbsState → List AbsState → List ℕ → Type 0
 IsPlacedAt states free i a after left =
     ((free ≡ left ++ i ∷ []) × (after ≡ set states i a))

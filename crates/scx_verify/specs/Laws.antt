@@ -51,7 +51,7 @@ RefusalsAreJustified =
     → IsProgram code → f ≢ NoMemory → IsReason c code f s → IsTyped c code → ⊥
 
 -- Where the checks of an instruction pass, its operation is the one that every state calls for that
--- the abstract state stands for, if that is proper.
+-- the abstract state describes, if that is proper.
 abbrev pub TypingChooses : Type 0
 TypingChooses =
     (c : Context) (t : ℕ) (i : Insn) (a : AbsState) (m : Machine) (next : Next)

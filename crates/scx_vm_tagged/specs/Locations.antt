@@ -14,12 +14,12 @@ location_of (OnStack at) = locations.OnStack at
 location_of (InElement m i at) = locations.InElement m i at
 location_of (InTask t f) = locations.InTask t f
 
--- so many bytes from an offset on are on the stack, and the offset is a multiple of their number
+-- that many bytes from an offset on are on the stack, and the offset is a multiple of their number
 pub record LiesOnStack (at n : ℕ) : Type 0 where
   pub within : at + n ≤ stack_size
   pub aligned : at % n ≡ 0
 
--- so many bytes from an offset on are in an element of a map, and both of these are there
+-- that many bytes from an offset on are in an element of a map, and both of these are there
 pub record LiesInElement (maps : Maps) (m i at n : ℕ) : Type 0 where
   pub map : m < count maps
   pub index : i < length (elements maps m)

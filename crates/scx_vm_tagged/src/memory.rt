@@ -22,7 +22,7 @@ pub enum Location {
     InTask(TaskId, Field),
 }
 
-/// The location that an address means, for so many bytes.
+/// The location that an address means, for that many bytes.
 #[inline(always)]
 pub fn address(maps: &Maps, base: Value, offset: i16, size: Size) -> Location
     ensures location { address maps.now base offset (size_bytes size) ≡ location_of result }

@@ -130,7 +130,7 @@ fn write_account<L: Listener, W: Out>(
         Account::Trace => simulate(alloc, policy, second, listener, out),
         Account::Timeline => {
             let title = title_of(alloc, words)?;
-            timeline(alloc, title.as_str(), policy, second, listener, out)
+            timeline(alloc, title.as_str(), policy, second, span, listener, out)
         }
         Account::View => {
             let paths = paths_of(words);

@@ -1,1 +1,2 @@
+mod LastHeard
 mod Waiting

@@ -1,2 +1,3 @@
 pub mod Idling
+pub mod LastCalls
 pub mod Runs

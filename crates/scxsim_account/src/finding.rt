@@ -1,15 +1,18 @@
-ghost use Rattle.std.specs.Prelude.{◌≡◌, IfOk, IfErr};
+ghost use Rattle.std.specs.Prelude.{◌≡◌, IfOk, IfErr, IfSome};
 ghost use Rattle.scx_load_replay.specs.Scenarios.{scenario_events};
 ghost use Rattle.scx_load_replay.specs.Sources.{remaining};
 ghost use Rattle.scxsim_simulation.specs.Scenarios.{IsScenarioRun, IsScenarioCause};
 ghost use Rattle.scxsim_statistics.specs.Figures.{AreOfTexts};
 ghost use Rattle.scxsim_account.specs.Idling.{idle_of};
-ghost use Rattle.scxsim_account.specs.Runs.{IsIdleOfTexts};
+ghost use Rattle.scxsim_account.specs.LastCalls.{IsLastBeforeEjection};
+ghost use Rattle.scxsim_account.specs.Runs.{IsIdleOfTexts, IsLastOfTexts};
 
 use crate::account::{Account, account_of};
-use crate::call_end::{CallEnd, Wanted, last_end};
+use crate::call_end::CallEnd;
 use crate::half_progress::HalfProgress;
+use crate::holding::hold_of;
 use crate::idling::IdleFigures;
+use crate::last_call::last_end;
 use crate::worst::worst_of;
 use scx_load_policies::{Programs, read_policy};
 use scx_load_replay::Source;
@@ -31,18 +34,13 @@ pub struct Findings {
     pub idle: IdleFigures,
     pub account: Account,
     /// The fault or exit for which the policy was ejected.
-    pub fault: Option<FoundFault>,
-    /// The first of the longest waits in which the task was held.
+    pub fault: Option<FaultPlace>,
+    /// The end of the last callback before the policy was ejected.
+    pub last: Option<CallEnd>,
+    /// A task that was held in one of the longest waits: the one that stalled, else the first.
     pub held: Option<HeldTask>,
     /// The programs of the policy.
     pub programs: Programs,
-}
-
-/// The place of a fault or exit, and the end of its callback.
-#[derive(Clone, Copy)]
-pub struct FoundFault {
-    pub place: FaultPlace,
-    pub end: Option<CallEnd>,
 }
 
 /// A task that enqueue put nowhere, the clock of it, and the end of that call.
@@ -66,6 +64,8 @@ pub fn examine<L: Listener>(
 ) -> Result<Findings, Refusal>
     ensures waits { IfOk result (λ found. AreOfTexts policy.now scenario.now found.figures) }
     ensures idle { IfOk result (λ found. IsIdleOfTexts policy.now scenario.now found.idle) }
+    ensures last { IfOk result (λ found.
+        IfSome found.last (IsLastOfTexts policy.now scenario.now)) }
     ensures refused { IfErr result (IsScenarioCause policy.now scenario.now) }
 {
     let figures = first_time(alloc, policy, scenario, listener)?;
@@ -73,6 +73,7 @@ pub fn examine<L: Listener>(
     let Watched {
         account,
         fault,
+        last,
         held,
     } = watch(alloc, &figures, run, listener)?;
     let idle = account.idling.figures();
@@ -82,20 +83,25 @@ pub fn examine<L: Listener>(
         idle,
         account,
         fault,
+        last,
         held,
         programs,
     })
 }
 
-/// The account of a run's longest waits, the fault or exit that ejected the policy, and a held task.
+/// The account of a run's longest waits, the fault or exit that ejected the policy, the last callback before that, and
+/// a held task.
 #[derive(Drop)]
 struct Watched {
     account: Account,
-    fault: Option<FoundFault>,
+    fault: Option<FaultPlace>,
+    last: Option<CallEnd>,
     held: Option<HeldTask>,
 }
 
-/// Goes through the run the first time, for its figures.
+/// Goes through the run the first time, for its figures. It isn't inlined, so that the values of both times don't share
+/// a frame of the stack.
+#[inline(never)]
 fn first_time<L: Listener>(
     alloc: Global,
     policy: &str,
@@ -113,14 +119,17 @@ fn first_time<L: Listener>(
 }
 
 /// Goes through the run again, for what these figures leave open.
+#[inline(never)]
 fn watch<L: Listener>(
     alloc: Global,
     figures: &Figures,
     run: ScenarioRun,
     listener: &mut L,
 ) -> Result<Watched, AllocError>
-    ensures { IfOk result (λ watched. watched.account.idling
+    ensures idling { IfOk result (λ watched. watched.account.idling
         ≡ idle_of run.sim (scenario_events run.scenario run.sim)) }
+    ensures last { IfOk result (λ watched. IfSome watched.last
+        (IsLastBeforeEjection run.sim (scenario_events run.scenario run.sim))) }
 {
     let watched = watch_copies(alloc, figures, &run, listener);
     drop(run);
@@ -134,15 +143,19 @@ fn watch_copies<L: Listener>(
     run: &ScenarioRun,
     listener: &mut L,
 ) -> Result<Watched, AllocError>
-    ensures { IfOk result (λ watched. watched.account.idling
+    ensures idling { IfOk result (λ watched. watched.account.idling
         ≡ idle_of run.now.sim (scenario_events run.now.scenario run.now.sim)) }
+    ensures last { IfOk result (λ watched. IfSome watched.last
+        (IsLastBeforeEjection run.now.sim (scenario_events run.now.scenario run.now.sim))) }
 {
     let fault = fault_in(alloc, figures.ejected, run)?;
     let account = second_time(alloc, figures, run, listener)?;
+    let last = last_in(alloc, figures.ejected, account.calls.last, run)?;
     let held = held_in(alloc, figures.ejected, &account.waits, run)?;
     Ok(Watched {
         account,
         fault,
+        last,
         held,
     })
 }
@@ -209,33 +222,20 @@ fn programs_of(alloc: Global, policy: &str) -> Result<Programs, AllocError> {
     }
 }
 
-/// The fault or exit for which the policy was ejected, if it was, in copies of a run.
+/// The fault or exit for which the policy was ejected, if it was, in a copy of a run.
 fn fault_in(
     alloc: Global,
     ejected: Option<Eject>,
     run: &ScenarioRun,
-) -> Result<Option<FoundFault>, AllocError> {
+) -> Result<Option<FaultPlace>, AllocError> {
     match ejected {
         Some(Eject::Fault(_, clock) | Eject::Exit(_, clock)) => fault_at(alloc, clock, run),
         Some(Eject::Stall(_, _)) | None => Ok(None),
     }
 }
 
-/// The fault or exit at that clock, in copies of a run.
+/// The fault or exit at that clock, in a copy of a run.
 fn fault_at(
-    alloc: Global,
-    clock: u64,
-    run: &ScenarioRun,
-) -> Result<Option<FoundFault>, AllocError> {
-    let Some(place) = place_at(alloc, clock, run)? else {
-        return Ok(None);
-    };
-    let end = end_at(alloc, Wanted::All, clock, run)?;
-    Ok(Some(FoundFault { place, end }))
-}
-
-/// The place of the fault or exit at that clock, in a copy of a run.
-fn place_at(
     alloc: Global,
     clock: u64,
     run: &ScenarioRun,
@@ -247,15 +247,29 @@ fn place_at(
     Ok(place)
 }
 
-/// The end of the last callback that is wanted, up to that clock, in a copy of a run.
-fn end_at(
+/// The end of the last callback, which is called at that clock, if the policy was ejected.
+fn last_in(
     alloc: Global,
-    wanted: Wanted,
-    clock: u64,
+    ejected: Option<Eject>,
+    clock: Option<u64>,
     run: &ScenarioRun,
-) -> Result<Option<CallEnd>, AllocError> {
+) -> Result<Option<CallEnd>, AllocError>
+    ensures { IfOk result (λ last. IfSome last
+        (IsLastBeforeEjection run.now.sim (scenario_events run.now.scenario run.now.sim))) }
+{
+    match (ejected, clock) {
+        (Some(_), Some(clock)) => last_from(alloc, clock, run),
+        (Some(_), None) | (None, _) => Ok(None),
+    }
+}
+
+/// The end of the last callback before the policy's ejection, in a copy of a run.
+fn last_from(alloc: Global, clock: u64, run: &ScenarioRun) -> Result<Option<CallEnd>, AllocError>
+    ensures { IfOk result (λ last. IfSome last
+        (IsLastBeforeEjection run.now.sim (scenario_events run.now.scenario run.now.sim))) }
+{
     let (mut events, mut sim) = run.duplicate(alloc)?;
-    let end = last_end(&mut events, &mut sim, wanted, clock);
+    let end = last_end(&mut events, &mut sim, clock);
     drop(events);
     drop(sim);
     Ok(end)
@@ -272,10 +286,24 @@ fn held_in(
     let Some((task, clock)) = hold_to_tell(ejected, waits) else {
         return Ok(None);
     };
-    match end_at(alloc, Wanted::Holding(task, clock), clock, run)? {
+    match hold_at(alloc, task, clock, run)? {
         Some(end) => Ok(Some(HeldTask { task, clock, end })),
         None => Ok(None),
     }
+}
+
+/// The end of the call of enqueue that put the task nowhere at that clock, in a copy of a run.
+fn hold_at(
+    alloc: Global,
+    task: u16,
+    clock: u64,
+    run: &ScenarioRun,
+) -> Result<Option<CallEnd>, AllocError> {
+    let (mut events, mut sim) = run.duplicate(alloc)?;
+    let end = hold_of(&mut events, &mut sim, task, clock);
+    drop(events);
+    drop(sim);
+    Ok(end)
 }
 
 /// The hold of the task that stalled, else the first one.

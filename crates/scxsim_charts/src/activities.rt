@@ -1,3 +1,4 @@
+use scx_load_workloads::Workload;
 use scx_sched::What;
 use scx_sched_world::{HELD, PARKED};
 use std::alloc::{AllocError, Global};
@@ -46,14 +47,17 @@ pub(crate) struct Activities {
     stays: Vec<Option<Stay>>,
     /// The number of tasks that wait for a CPU.
     waiting: usize,
+    /// True if some task may not run on all CPUs.
+    are_bound: bool,
 }
 
 impl Activities {
-    /// All of these tasks sleep.
-    pub(crate) fn new(alloc: Global, tasks: usize) -> Result<Activities, AllocError> {
+    /// All tasks of the workload sleep.
+    pub(crate) fn new(alloc: Global, workload: &Workload) -> Result<Activities, AllocError> {
         Ok(Activities {
-            stays: vec![in alloc; None; tasks]?,
+            stays: vec![in alloc; None; workload.tasks().len()]?,
             waiting: 0,
+            are_bound: workload.is_bound(),
         })
     }
 
@@ -80,9 +84,29 @@ impl Activities {
         self.change(task, None, moment)
     }
 
-    /// True if a task waits for a CPU.
-    pub(crate) fn somebody_waits(&self) -> bool {
-        0 < self.waiting
+    /// The CPUs for which a task waits that may run there, one bit each. `masks` has the CPUs of each task.
+    pub(crate) fn awaited_cpus(&self, masks: &[u64]) -> u64 {
+        if self.waiting == 0 {
+            return 0;
+        }
+        if !self.are_bound {
+            return u64::MAX;
+        }
+        let mut cpus = 0u64;
+        for (task, mask) in masks.iter().enumerate() {
+            if self.waits(task) {
+                cpus |= *mask;
+            }
+        }
+        cpus
+    }
+
+    /// True if the task waits for a CPU.
+    fn waits(&self, task: usize) -> bool {
+        match self.stays.get(task) {
+            Some(Some(stay)) => stay.doing.is_waiting(),
+            _ => false,
+        }
     }
 
     /// The task does this from that moment on, or sleeps.
@@ -90,7 +114,7 @@ impl Activities {
         let place = self.stays.get_mut(task as usize)?;
         let before = *place;
         *place = stay_of(doing, moment);
-        if is_waiting(doing) {
+        if self.waits(task as usize) {
             self.waiting = self.waiting.saturating_add(1);
         }
         let stay = before?;
@@ -109,14 +133,6 @@ impl Activities {
 fn stay_of(doing: Option<Activity>, since: u64) -> Option<Stay> {
     let doing = doing?;
     Some(Stay { doing, since })
-}
-
-/// True if a task that does this waits for a CPU.
-fn is_waiting(doing: Option<Activity>) -> bool {
-    match doing {
-        Some(doing) => doing.is_waiting(),
-        None => false,
-    }
 }
 
 /// The activity of a task in the queue of that id.

@@ -9,7 +9,7 @@ use scx_sched::{Event, Sim, What};
 use scxsim_commands::Ejection;
 use scxsim_simulation::{Heard, Listener, ScenarioRun, give_back};
 use scxsim_trace::{Observer, observe};
-use scxsim_views::PauseKind;
+use scxsim_views::{PauseKind, has_cpu};
 use std::alloc::{AllocError, Global};
 
 /// The time of each activity, by row and character.
@@ -24,7 +24,7 @@ pub(crate) struct Sums {
     pub(crate) parked: Grid,
     /// The milliseconds of each of these rows that tasks waited by the clock.
     waits: Vec<u64>,
-    /// Lines of CPUs: how long they were idle while a task waited.
+    /// Lines of CPUs: how long they were idle while a task waited that may run there.
     pub(crate) lost: Grid,
     /// Rows of all groups, where tasks are added up: the time that was due to each, in parts.
     pub(crate) due: Grid,
@@ -139,7 +139,7 @@ impl<'a> Gathering<'a> {
     /// Takes all memory, before the first event.
     fn new(alloc: Global, workload: &'a Workload, scale: Scale) -> Result<Self, AllocError> {
         let rows = Rows::new(workload);
-        let activities = Activities::new(alloc, workload.tasks().len())?;
+        let activities = Activities::new(alloc, workload)?;
         let waits = Waits::new(alloc, workload.tasks().len())?;
         let dues = dues_of(alloc, workload, rows)?;
         let sums = Sums::new(alloc, rows, scale.cells())?;
@@ -178,17 +178,15 @@ impl<'a> Gathering<'a> {
         }
     }
 
-    /// Adds the current millisecond to the line of each CPU that runs no task, if a task waits.
+    /// Adds the current millisecond to the line of each CPU that runs no task, if a task waits that may run there.
     fn lose(&mut self, sim: &Sim) {
-        if !self.activities.somebody_waits() {
-            return;
-        }
+        let awaited = self.activities.awaited_cpus(self.workload.masks());
         let clock = sim.clock();
         let scale = self.scale;
         let rows = self.gathered.rows;
         let lost = &mut self.gathered.sums.lost;
         for cpu in 0..sim.cpus() {
-            if sim.running(cpu).is_none() {
+            if has_cpu(awaited, cpu) && sim.running(cpu).is_none() {
                 let line = rows.line_of_cpu(cpu as usize);
                 lost.add(line, scale, clock, clock.saturating_add(1));
             }
@@ -249,7 +247,10 @@ impl Observer for Gathering<'_> {
             self.lose(sim);
         }
         if let Some(dues) = &mut self.dues {
-            dues.expect(sim, event, self.scale, &mut self.gathered.sums.due);
+            dues.expect(sim, event, self.workload);
+            if let Event::Clock = event {
+                dues.pass(sim.clock(), self.scale, &mut self.gathered.sums.due);
+            }
         }
     }
 

@@ -24,20 +24,14 @@ impl Grid {
 
     /// Adds the time between two moments to the characters of a row in which it lies.
     pub(crate) fn add(&mut self, row: usize, scale: Scale, since: u64, until: u64) {
-        self.add_times(row, scale, since, until, 1);
+        for cell in scale.cell(since)..scale.end_cell(until) {
+            self.add_to_cell(row, cell, scale.overlap(cell, since, until));
+        }
     }
 
-    /// Adds the time between two moments that many times.
-    pub(crate) fn add_times(
-        &mut self,
-        row: usize,
-        scale: Scale,
-        since: u64,
-        until: u64,
-        times: u64,
-    ) {
-        for cell in scale.cell(since)..scale.end_cell(until) {
-            let more = scale.overlap(cell, since, until).saturating_mul(times);
+    /// Adds an amount to each character of a row that lies in a millisecond.
+    pub(crate) fn add_to_all(&mut self, row: usize, scale: Scale, clock: u64, more: u64) {
+        for cell in scale.cell(clock)..scale.end_cell(clock.saturating_add(1)) {
             self.add_to_cell(row, cell, more);
         }
     }

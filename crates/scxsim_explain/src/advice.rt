@@ -78,7 +78,7 @@ fn advice_on_flow(flow: BadFlow) -> &'static str {
     match flow {
         BadFlow::Back(_) => "write the loop out",
         BadFlow::OutOfProgram { .. } => {
-            "count slots from the instruction behind the jump, or use a label"
+            "count slots from the instruction after the jump, or use a label"
         }
         BadFlow::IntoWide(_) => "count instructions of two slots as two, or use a label",
         BadFlow::FallsOff => "end with exit",

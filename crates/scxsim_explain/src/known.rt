@@ -1,11 +1,13 @@
 use crate::words::{from_top, push_brief};
-use scx_abs::{AbsState, Kind};
+use scx_abs::{AbsState, CELL_BYTES, Cell, Kind};
 use scx_isa::{REGISTERS, STACK_SIZE};
-use scx_verify_explain::{byte_kind, cell_of, is_pointer};
 use scxsim_output::Text;
 
 /// The number of listed registers: all but r10, which is always the frame.
 const LISTED: usize = REGISTERS - 1;
+
+/// The last byte of a cell, counted from its first.
+const LAST_IN_CELL: u16 = CELL_BYTES as u16 - 1;
 
 /// Items of a list, with commas between them.
 #[derive(Drop)]
@@ -13,6 +15,8 @@ struct Items<'a> {
     line: &'a mut Text,
     has_items: bool,
     has_stack: bool,
+    /// The first of the written bytes that aren't listed yet.
+    written: Option<u16>,
 }
 
 impl Items<'_> {
@@ -34,17 +38,47 @@ impl Items<'_> {
         push_brief(self.line, &kind);
     }
 
-    /// Bytes of the stack of which the same is known.
-    fn bytes(&mut self, first: u16, last: u16, kind: Kind) {
+    /// Begins an item of bytes of the stack.
+    fn bytes(&mut self, first: u16, last: u16) {
         self.begin();
         let stack = if self.has_stack { "" } else { "stack " };
         self.has_stack = true;
         self.line.show(stack, &from_top(first));
         self.line.show("..", &from_top(last));
         self.line.push(" ");
-        match kind {
-            Kind::Num(_) => self.line.push("written"),
-            kind => push_brief(self.line, &kind),
+    }
+
+    /// A cell of the stack that begins at a byte: which of its bytes are written, or a pointer.
+    fn cell(&mut self, at: u16, cell: Cell) {
+        match cell {
+            Cell::Bytes(set) => self.numbers(at, &set),
+            Cell::Pointer(pointer) => {
+                self.end_written(at);
+                self.bytes(at, at.saturating_add(LAST_IN_CELL));
+                push_brief(self.line, &pointer.kind());
+            }
+        }
+    }
+
+    /// Eight bytes, some of which are written.
+    fn numbers(&mut self, at: u16, set: &[bool; CELL_BYTES]) {
+        let mut byte = at;
+        for is_written in set {
+            if !*is_written {
+                self.end_written(byte);
+            } else if self.written.is_none() {
+                self.written = Some(byte);
+            }
+            byte = byte.saturating_add(1);
+        }
+    }
+
+    /// The written bytes that aren't listed yet, which end before this one.
+    fn end_written(&mut self, end: u16) {
+        if let Some(first) = self.written {
+            self.written = None;
+            self.bytes(first, end.saturating_sub(1));
+            self.line.push("written");
         }
     }
 }
@@ -55,6 +89,7 @@ pub(crate) fn push_known(line: &mut Text, state: &AbsState) {
         line,
         has_items: false,
         has_stack: false,
+        written: None,
     };
     push_registers(&mut items, state);
     push_stack(&mut items, state);
@@ -86,24 +121,10 @@ fn kind_of(state: &AbsState, number: usize) -> Kind {
 }
 
 fn push_stack(items: &mut Items<'_>, state: &AbsState) {
-    let mut first = 0;
-    for byte in 0..STACK_SIZE {
-        let next = byte.saturating_add(1);
-        if !goes_on(state, byte, next) {
-            let kind = byte_kind(state, byte);
-            if kind != Kind::Unusable {
-                items.bytes(first, byte, kind);
-            }
-            first = next;
-        }
+    let mut at = 0;
+    for cell in &state.cells {
+        items.cell(at, *cell);
+        at = at.saturating_add(CELL_BYTES as u16);
     }
-}
-
-/// True if the next byte belongs to the same item as one: nothing is known of both, both are
-/// written, or both are parts of the same pointer.
-fn goes_on(state: &AbsState, byte: u16, next: u16) -> bool {
-    let kind = byte_kind(state, byte);
-    next < STACK_SIZE
-        && byte_kind(state, next) == kind
-        && (!is_pointer(kind) || cell_of(next) == cell_of(byte))
+    items.end_written(STACK_SIZE);
 }

@@ -117,7 +117,7 @@ fn push_flow(line: &mut Text, flow: BadFlow) {
             line.show("", &to);
             line.push(" is the second slot of an instruction");
         }
-        BadFlow::FallsOff => line.push("control would go on behind the last instruction"),
+        BadFlow::FallsOff => line.push("control would go on after the last instruction"),
     }
 }
 

@@ -157,6 +157,7 @@ built_seeded text p n b = record {
   idle = b.idle;
   timers = b.timers;
   programs = b.programs;
+  contexts = b.contexts;
   accepted = b.accepted;
   as_callbacks = b.as_callbacks;
   for_maps = b.for_maps;

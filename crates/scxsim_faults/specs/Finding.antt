@@ -33,8 +33,8 @@ pub record IsCallAt (program : VerifiedProgram) (ran : Answered) (slot : ℕ) (c
   pub calls : at program.code slot ≡ Some (insn.Call call.number)
   pub helper : helper_at call.number ≡ Some call.helper
 
--- select_cpu answered no CPU, and before that it had no fault and didn't end the policy; the slot is
--- that of its exit
+-- select_cpu answered no CPU, and before that it had no fault and didn't end the policy; the slot
+-- is that of its exit
 pub record IsAnswerAt (program : VerifiedProgram) (ran : Answered) (w : WorldState) (cause : Cause)
     (slot : ℕ) : Type 0 where
   pub none : w.call.cause ≡ None

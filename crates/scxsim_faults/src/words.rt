@@ -235,7 +235,7 @@ fn write_no_queue(queue: u64, said: &mut Text) {
 }
 
 fn write_no_cpu(cpu: u64, cpus: u32, said: &mut Text) {
-    said.number("no processor ", cpu);
+    said.number("no CPU ", cpu);
     if cpus == 1 {
         said.push("; there is 1");
     } else {

@@ -1,5 +1,6 @@
 pub mod Places
 pub mod Below
+mod Bound
 mod Rows
 mod Told
 pub mod Merging

@@ -195,8 +195,8 @@ counts_after_note clock what k =
 -- what processors lose of the millisecond whose ticks begin with this one
 abbrev pub loss_counted : WorldState → ℕ → RunCounts → RunCounts
 loss_counted w c k = record k {
-  lost = lost_if (loses c k.doing) w k.lost;
-  anywhere = anywhere_if (loses c k.doing) w k.anywhere;
+  lost = lost_if (loses c k.doing) w k.doing k.lost;
+  anywhere = anywhere_if (loses c k.doing) w k.doing k.anywhere;
 }
 
 -- a tick of a processor that runs a task before it, or none

@@ -31,7 +31,7 @@ use Rattle.scxsim_views.specs.Percentiles.{ArePercentiles}
 use Rattle.scxsim_statistics.specs.Bursts.{bursts_at, burst_ms}
 use Rattle.scxsim_statistics.specs.Latencies.{latencies_at}
 use Rattle.scxsim_statistics.specs.Groups.{is_in, waits_at, waits_below}
-use Rattle.scxsim_statistics.specs.Losses.{is_cpu_idle, idle_below, lost_at}
+use Rattle.scxsim_statistics.specs.Losses.{is_wasted, wasted_below, lost_at}
 use Rattle.scxsim_statistics.specs.Counting.{RunCounts, figures_at, cpu_at}
 use Rattle.scxsim_statistics.specs.declared.tally.TaskFigures.{TaskFigures}
 use Rattle.scxsim_statistics.specs.declared.tally.CpuFigures.{CpuFigures}
@@ -240,20 +240,20 @@ begins_ticks e = false
 abbrev pub doing_after_notes : List Note → List Doing → List Doing
 doing_after_notes ns ds = noted_all doing_after ns ds
 
--- the milliseconds of these events at whose first tick a task waits and this CPU is idle; they
--- begin in that state, with each task doing what the list says
+-- the milliseconds of these events at whose first tick this CPU is idle and a task waits that may
+-- run there; they begin in that state, with each task doing what the list says
 abbrev pub lost_in : ℕ → List Doing → SimState → List Event → ℕ
 lost_in c ds s [] = 0
 lost_in c ds s (e ∷ es) =
-    one_if ((begins_ticks e && list_any waits ds) && is_cpu_idle s.state.world c)
+    one_if ((begins_ticks e && list_any waits ds) && is_wasted s.state.world c ds)
     + lost_in c (doing_after_notes (notes_of s e) ds) (after_event s e) es
 
--- in the same events, for how many milliseconds a task waits and some CPU is idle
+-- in the same events, for how many milliseconds some CPU is so
 abbrev pub lost_anywhere_in : List Doing → SimState → List Event → ℕ
 lost_anywhere_in ds s [] = 0
 lost_anywhere_in ds s (e ∷ es) =
     one_if ((begins_ticks e && list_any waits ds)
-    && idle_below (length s.state.world.cpus) s.state.world)
+    && wasted_below (length s.state.world.cpus) s.state.world ds)
     + lost_anywhere_in (doing_after_notes (notes_of s e) ds) (after_event s e) es
 
 -- ---- a run

@@ -153,7 +153,7 @@ impl RunTally {
         ensures result { self.new.result ≡ self.old.result }
     {
         if cpu == 0 && self.pauses.somebody_waits() {
-            self.losses.add(sim);
+            self.losses.add(sim, &self.pauses);
         }
     }
 

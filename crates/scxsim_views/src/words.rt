@@ -33,7 +33,7 @@ pub fn fault_words(fault: Fault) -> &'static str {
         Fault::CannotInsert => "the task can't be inserted here, or not a second time",
         Fault::Mixed => "by virtual time and in order of arrival into one queue",
         Fault::BuiltinVtime => "by virtual time into a queue of the machine",
-        Fault::NoSuchCpu => "no such processor",
+        Fault::NoSuchCpu => "no such CPU",
         Fault::UnknownFlag => "flags other than 0 and 1",
         Fault::CannotCreate => "the queue can't be created",
         Fault::IdleUntracked => "the policy tracks idle CPUs itself",

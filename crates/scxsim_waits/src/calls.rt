@@ -50,6 +50,8 @@ pub struct Calls {
     pub timers: TimerKicks,
     /// The first of the shortest slices below 1 ms that select_cpu or enqueue gave.
     pub shortest: Option<GivenSlice>,
+    /// The clock of the last call.
+    pub last: Option<u64>,
 }
 
 impl Model for Calls {
@@ -67,12 +69,14 @@ impl Calls {
             ranks: vec![in alloc; None; tasks]?,
             timers: TimerKicks::new(alloc, timers)?,
             shortest: None,
+            last: None,
         })
     }
 
     /// Counts a callback that was called with these arguments and has run. Its notes are still in the world.
     pub fn heed(&mut self, callback: Callback, arguments: Args, world: &World) {
         self.count(callback);
+        self.last = Some(world.clock());
         self.heed_kicks(callback, arguments, world);
         match callback {
             Callback::Dispatch => self.heed_dispatch(arguments, world),

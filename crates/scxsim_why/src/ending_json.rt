@@ -2,7 +2,7 @@ use crate::ending::write_event;
 use crate::json::{end, number, push_name, string, text, truth};
 use scx_load_workloads::Workload;
 use scx_sched::Event;
-use scxsim_account::{Cause, Ejection, Findings, FoundFault};
+use scxsim_account::{Cause, Ejection, Findings};
 use scxsim_faults::{FaultPlace, write_call, write_policy_queues, write_reason};
 use scxsim_output::Text;
 use scxsim_trace::Names;
@@ -59,16 +59,16 @@ fn write_place(
     alloc: Global,
     workload: &Workload,
     event: Event,
-    fault: Option<FoundFault>,
+    place: Option<FaultPlace>,
     lines: &mut Text,
 ) {
     let mut words = Text::new(alloc);
     write_event(workload, event, &mut words);
     text("event", &words, lines);
-    if let Some(fault) = fault {
-        string("callback", fault.place.callback.name(), lines);
-        number("slot", fault.place.slot as u64, lines);
-        write_words(alloc, workload, fault.place, lines);
+    if let Some(place) = place {
+        string("callback", place.callback.name(), lines);
+        number("slot", place.slot as u64, lines);
+        write_words(alloc, workload, place, lines);
     }
 }
 
@@ -84,11 +84,11 @@ fn write_words(alloc: Global, workload: &Workload, place: FaultPlace, lines: &mu
 }
 
 /// Writes the comment at an exit, if there is one.
-fn write_comment(alloc: Global, policy: &str, fault: Option<FoundFault>, lines: &mut Text) {
-    let Some(fault) = fault else {
+fn write_comment(alloc: Global, policy: &str, place: Option<FaultPlace>, lines: &mut Text) {
+    let Some(place) = place else {
         return;
     };
-    if let Some(comment) = comment_at(alloc, policy, fault.place.callback, fault.place.slot) {
+    if let Some(comment) = comment_at(alloc, policy, place.callback, place.slot) {
         string("comment", comment, lines);
     }
 }

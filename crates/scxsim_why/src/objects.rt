@@ -60,15 +60,13 @@ fn write_stretch(found: &Findings, seen: SeenStretch, lines: &mut Text) {
     end(lines);
 }
 
-/// Writes the held task, and what the faulting callback had read.
+/// Writes the held task, and what the last callback had read.
 fn write_causes(found: &Findings, lines: &mut Text) {
     if let Some(held) = found.held {
         write_held(found, held, lines);
     }
-    if let Some(fault) = found.fault {
-        if let Some(end) = fault.end {
-            write_reads(end, lines);
-        }
+    if let Some(end) = found.last {
+        write_reads(end, lines);
     }
 }
 

@@ -12,8 +12,8 @@ use scxsim_account::{Account, Cause, Findings};
 use scxsim_faults::{FaultPlace, write_call, write_policy_queues, write_reason};
 use scxsim_output::Text;
 use scxsim_why_lines::{
-    Length, write_held_task, write_idle, write_message, write_reads, write_scale, write_stretches,
-    write_throttled, write_waits, write_worst,
+    Length, write_held_task, write_idle, write_last_reads, write_message, write_reads, write_scale,
+    write_stretches, write_throttled, write_waits, write_worst,
 };
 use std::alloc::{AllocError, Global};
 
@@ -121,9 +121,11 @@ fn write_more(alloc: Global, policy: &str, found: &Findings, page: &mut Text) {
     if let Some(held) = found.held {
         write_held_task(alloc, policy, workload, held, page);
     }
-    if let Some(fault) = found.fault {
-        if let Some(end) = fault.end {
+    if let Some(end) = found.last {
+        if found.fault.is_some() {
             write_reads(end, page);
+        } else {
+            write_last_reads(end, page);
         }
     }
     write_throttled(&found.figures, page);
@@ -177,8 +179,8 @@ fn write_ending(alloc: Global, policy: &str, found: &Findings, page: &mut Text) 
         Cause::Fault(fault, event) => {
             page.number("fault ", u64::from(fault.number()));
             match found.fault {
-                Some(found) => {
-                    write_place(workload, found.place, event, page);
+                Some(place) => {
+                    write_place(workload, place, event, page);
                     page.push("\n");
                 }
                 None => write_unplaced(workload, fault, event, page),
@@ -187,9 +189,9 @@ fn write_ending(alloc: Global, policy: &str, found: &Findings, page: &mut Text) 
         Cause::Exit(code, event) => {
             page.show("exit ", &code);
             match found.fault {
-                Some(found) => {
-                    write_place(workload, found.place, event, page);
-                    write_message(alloc, policy, found.place.callback, found.place.slot, page);
+                Some(place) => {
+                    write_place(workload, place, event, page);
+                    write_message(alloc, policy, place.callback, place.slot, page);
                     page.push("\n");
                 }
                 None => write_unplaced_exit(workload, event, page),

@@ -20,7 +20,7 @@ use std::alloc::{AllocError, Global};
 /// The beginning of the first line.
 const ENDING: &str = "{\"kind\":\"ending\"";
 
-/// Writes what `why_all` finds as JSON, an object on each line, of which `kind` says what it is about. The answer is true.
+/// Writes what `why` finds as JSON, an object on each line, of which `kind` says what it is about. The answer is true.
 ///
 /// # Errors
 ///

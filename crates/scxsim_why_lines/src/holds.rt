@@ -37,13 +37,25 @@ fn write_missed(missed: MissedKey, page: &mut Text) {
 
 /// Writes the numbers that the faulting callback had read from maps, if it read some.
 pub fn write_reads(end: CallEnd, page: &mut Text) {
+    write_reads_of(end, "", " had read ", page);
+}
+
+/// Writes the numbers that the last callback had read from maps, if it read some.
+pub fn write_last_reads(end: CallEnd, page: &mut Text) {
+    write_reads_of(end, "the last callback, ", ", had read ", page);
+}
+
+/// Writes the numbers that a callback had read, with these words before its name and after it.
+fn write_reads_of(end: CallEnd, before: &'static str, after: &'static str, page: &mut Text) {
     if end.reads.at(0).is_none() {
         return;
     }
+    page.push(before);
     page.push(end.callback.name());
+    page.push(after);
     for place in 0..MOST_READS {
         if let Some(read) = end.reads.at(place) {
-            page.push(if place == 0 { " had read " } else { ", " });
+            page.push(if place == 0 { "" } else { ", " });
             write_read(read, page);
         }
     }

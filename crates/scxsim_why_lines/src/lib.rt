@@ -1,4 +1,4 @@
-//! The lines of `why` on what went wrong: waits, idle CPUs, held tasks, throttled groups, what a faulting callback read,
+//! The lines of `why` on what went wrong: waits, idle CPUs, held tasks, throttled groups, what the last callback read,
 //! and weights. CPUs that did alike share a line if they are many.
 #![tactic(auto)]
 
@@ -16,7 +16,7 @@ mod throttles;
 mod waits;
 mod words;
 
-pub use holds::{write_held_task, write_reads};
+pub use holds::{write_held_task, write_last_reads, write_reads};
 pub use idle::{write_idle, write_stretches};
 pub use length::Length;
 pub use messages::{comment_at, write_message};

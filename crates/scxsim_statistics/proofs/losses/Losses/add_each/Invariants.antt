@@ -4,6 +4,6 @@ use Rattle.scxsim_statistics.proofs.losses.Losses.add_each.Given as goal
 
 abbrev pub invariant-loop-cpu : goal.invariant-loop-cpu
 invariant-loop-cpu l = record {
-  cpus : l.self.cpus.items ≡ lost_below l.cpu l.sim.state.world l.initial.self.cpus.items;
+  cpus : l.self.cpus.items ≡ lost_below l.cpu l.sim.state.world l.pauses l.initial.self.cpus.items;
   anywhere : l.self.anywhere ≡ l.initial.self.anywhere;
 }
