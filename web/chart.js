@@ -284,37 +284,43 @@ function drawShareColumn(x, end, top, line, before, lack, colour) {
   }
 }
 
-// All CPUs, where they are folded: the part of their time in which tasks of each group ran, one upon the other, hatched
-// where some were idle, as the CPUs' own rows are.
+// All CPUs, where they are folded, as an area: those that ran, one upon the other by group, and hatched above them those that
+// were idle while a task waited that may run there, or while a quota was used up. The others were idle.
 function drawAllProcessors(y, tall) {
-  const { sums, groups, processors, duration } = run, offset = plotLeft(), width = plotWidth(), step = perPixel();
-  const leaves = [...groups.keys()].filter((g) => groups[g].tasks.length > 0);
-  clearBands();
-  for (let x = 0; x < width; x++) {
-    const from = view.from + x * step, until = Math.min(duration, from + step);
-    const share = within(sums, sums.busy, 0, from, until) / step / processors;
-    if (share < 0.99) hatchColumn(run.waitsOnSome, offset + x, from, until, Math.min(1, 2 * (1 - share)));
-  }
-  putBand(high, y, tall);
-  stackGroups(leaves, y + tall, tall / step / processors);
+  const { sums, groups, lost } = run, leaves = [...groups.keys()].filter((g) => groups[g].tasks.length > 0);
+  const layers = leaves.map((g) => layerOf((time) => gridUntil(sums, sums.ran, g * sums.row, time), ...coloursOfGroup(g, leaves)));
+  layers.push(layerOf((time) => waitedUntil(lost, time), palette.wrong, palette.wrong, true));
+  if (run.idleByQuota > 0) layers.push(layerOf((time) => quotaUntil(lost, time), palette.parked, palette.parked, true));
+  for (let x = 0; x < plotWidth(); x++) drawLayers(layers, x, y, tall);
 }
 
-// The run times of groups, above each other from `bottom`.
-function stackGroups(leaves, bottom, scale) {
-  const { sums, duration, groups } = run, offset = plotLeft(), width = plotWidth(), step = perPixel();
-  const ran = leaves.map((g) => gridUntil(sums, sums.ran, g * sums.row, view.from));
-  const colours = leaves.map((g) => leaves.length > 1 ? palette.fills[colourOf(groups[g].tasks[0])] : palette.several);
-  for (let x = 0; x < width; x++) {
-    const time = Math.min(duration, view.from + (x + 1) * step);
-    let sum = 0, before = bottom;
-    for (let k = 0; k < leaves.length; k++) {
-      const ranNow = gridUntil(sums, sums.ran, leaves[k] * sums.row, time);
-      sum += ranNow - ran[k];
-      ran[k] = ranNow;
-      const top = bottom - Math.round(sum * scale);
-      for (let at = Math.max(0, top); at < Math.min(pixelsHigh, before); at++) pixels[at * pixelsWide + offset + x] = colours[k];
-      before = top;
-    }
+const layerOf = (until, colour, edge, isHatched = false) => ({ until, colour, edge, isHatched, before: until(view.from) });
+
+function coloursOfGroup(g, leaves) {
+  const colour = colourOf(run.groups[g].tasks[0]);
+  return leaves.length > 1 ? [palette.fills[colour], palette.edges[colour]] : [palette.several, palette.several];
+}
+
+// A pixel of an area: each layer is as high as the time that it adds. One with a pattern is seen wherever it has some.
+function drawLayers(layers, x, y, tall) {
+  const step = perPixel(), time = Math.min(run.duration, view.from + (x + 1) * step), scale = tall / step / run.processors;
+  let sum = 0, bottom = y + tall;
+  for (const layer of layers) {
+    const now = layer.until(time), added = now - layer.before;
+    sum += added;
+    layer.before = now;
+    let top = Math.max(y, y + tall - Math.round(sum * scale));
+    if (layer.isHatched && added > 0.001 * step) top = Math.max(y, Math.min(top, bottom - high.grain));
+    if (top < bottom) drawLayer(layer, plotLeft() + x, top, bottom);
+    bottom = Math.min(bottom, top);
+  }
+}
+
+function drawLayer({ colour, edge, isHatched }, x, top, bottom) {
+  const tile = TILES[WRONG_TILE], { grain, columns } = high, hasEdge = bottom - top >= 3 * grain;
+  for (let at = Math.max(0, top); at < Math.min(pixelsHigh, bottom); at++) {
+    if (isHatched && !tile[Math.floor(at / grain) % TILE * TILE + columns[x]]) continue;
+    pixels[at * pixelsWide + x] = hasEdge && at < top + grain ? edge : colour;
   }
 }
 

@@ -3,6 +3,7 @@
 // A stretch is 16 bytes: from, length (u32 ms), task (u16), processor (u8), why (u8), queue (u16), 2 spare. The bits 64 and
 // 128 of why say that it began, and that it ended, as a millisecond ended: at a clock that is one less.
 // Times are counted from the beginning of what is shown, which need not be that of the run: see momentText.
+const MOST_CPUS = 16;  // more fold at first
 const NOWHERE = 255, GLOBAL = 16, HELD = 17, BUILTIN = 18, PARKED = 19, LOCAL = 20, NO_QUEUE = 65535;
 const WHY_RUN = ["the run was over", "it was stopped: its slice was used up and another came", "it went to sleep",
   "its group had used its quota, and it was parked", "", "", "", "this part of the run was over"];

@@ -82,10 +82,15 @@ function waitingWords(time, row) {
 
 const firstNames = (names) => names.slice(0, 6).join(", ") + (names.length > 6 ? " and " + (names.length - 6) + " more" : "");
 
+// The CPUs that ran at that moment, in all and by group.
 function describeAllCpus(time) {
-  let busy = 0;
-  for (let cpu = 0; cpu < run.processors; cpu++) eachRun(run, cpu, time, Math.min(run.duration, time + 1), () => { busy++; });
-  return [busy + " of " + run.processors + " CPUs ran at " + momentText(time), ...(busy < run.processors ? waitingWords(time, {}) : [])];
+  const busy = new Map(), count = (group) => { busy.set(group, (busy.get(group) ?? 0) + 1); };
+  for (let cpu = 0; cpu < run.processors; cpu++)
+    eachRun(run, cpu, time, Math.min(run.duration, time + 1), (task) => count(run.tasks[task].group));
+  const all = [...busy.values()].reduce((sum, cpus) => sum + cpus, 0);
+  const groups = [...busy].sort((one, other) => other[1] - one[1]).map(([group, cpus]) => run.groups[group].name + " on " + cpus);
+  return [all + " of " + run.processors + " CPUs ran at " + momentText(time), ...(groups.length > 1 ? [firstNames(groups)] : []),
+    ...(all < run.processors ? waitingWords(time, {}) : [])];
 }
 
 function choose(stretch) {

@@ -17,6 +17,7 @@ function legendItems() {
   const add = (words, tile, kind) => items.push([words, (brush) => paintTile(brush, TILES[tile], names[kind], names[kind + "Paper"])]);
   items.push([run.isByTask ? "runs (letter and colour: its task)" : "runs (letter: its task; colour: its group)",
     (brush) => paintBoxes(brush, [0, 1].flatMap(barBoxes))]);
+  if (run.processors > MOST_CPUS) addArea(items);
   for (const queue of all) if (queue < LOCAL) add(WAIT_WORDS[queue] ?? "waits in " + queueName(run, queue), tileOf(queue), "wait");
   if (all.some(isLocal)) add("waits in a CPU's own queue", tileOf(LOCAL), "wait");
   if (run.parkedBefore[run.count] > 0) add("parked: quota used up", tileOf(PARKED), "parked");
@@ -30,6 +31,13 @@ function legendItems() {
     canvas.style.background = `linear-gradient(90deg, transparent, ${names.several})`;
   }]);
   return items;
+}
+
+function addArea(items) {
+  const isOne = run.groups.filter((group) => group.tasks.length).length === 1, { names } = palette;
+  const boxes = isOne ? [[names.several, 0, 5, 30, 9]] : [[names.tasks[0], 0, 9, 30, 5], [names.tasks[1], 0, 5, 30, 4]];
+  items.push(["all CPUs as an area: those that ran" + (isOne ? "" : ", by group") + "; hatched: idle while a task waits; the rest: idle",
+    (brush) => { paintBoxes(brush, boxes); paintTile(brush, TILES[WRONG_TILE], names.wrong, names.paper, 2, 5); }]);
 }
 
 const barBoxes = (k) => [[hexOf(palette.edges[k]), 16 * k, 0, 14, 14], [palette.names.tasks[k], 16 * k + 1, 1, 12, 12]];

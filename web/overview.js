@@ -9,9 +9,9 @@ function drawOverview() {
   const brush = canvas.getContext("2d"), { several, wrong, ink } = palette.names, step = duration / (wide - left());
   for (let x = 0; x < wide - left(); x++) {
     const from = x * step, until = Math.min(duration, from + step), share = within(sums, sums.busy, 0, from, until) / step / processors;
-    const waits = (waitedUntil(run.waitsOnSome, until) - waitedUntil(run.waitsOnSome, from)) / step, high = Math.round(share * (OVERVIEW - 6));
+    const lost = (waitedUntil(run.lost, until) - waitedUntil(run.lost, from)) / step, high = Math.round(share * (OVERVIEW - 6));
     paintBoxes(brush, [[several, left() + x, OVERVIEW - high, 1, high]]);
-    if (Math.min(waits, 1 - share) > 0.01) paintBoxes(brush, [[wrong, left() + x, 0, 1, 4]]);
+    if (lost > 0.01) paintBoxes(brush, [[wrong, left() + x, 0, 1, 4]]);
   }
   if (isEjectionShown()) paintBoxes(brush, [[wrong, left() + run.ended.at / step - 1, 0, 2, OVERVIEW]]);
   Object.assign(brush, { fillStyle: ink, font: "600 11px system-ui, sans-serif", textBaseline: "middle" });

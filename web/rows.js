@@ -1,8 +1,8 @@
 // The rows of the chart, and their names.
-const MOST_TASK_ROWS = 128;
+const MOST_TASK_ROWS = 128, MOST_CPU_ROWS = 32;
 
 function makeRows() {
-  const rows = [], many = run.tasks.length > 64, thin = run.processors > 16, strip = run.groups.length > 1;
+  const rows = [], many = run.tasks.length > 64, thin = run.processors > MOST_CPUS, strip = run.groups.length > 1;
   const add = (row) => rows.push(row), addGroup = (g, depth) => {
     const folded = view.folded.has(g);
     add({ kind: "group", number: g, depth, folded, high: folded ? 50 : strip ? 34 : 24 });
@@ -15,7 +15,7 @@ function makeRows() {
     add({ kind: "section", key, name, folded, high: folded ? high : 24 });
     return !folded;
   };
-  if (addSection("cpus", run.processors === 1 ? "CPU" : run.processors + " CPUs", 56))
+  if (addSection("cpus", run.processors === 1 ? "CPU" : run.processors + " CPUs", run.processors > MOST_CPU_ROWS ? 104 : 56))
     for (let cpu = 0; cpu < run.processors; cpu++) add({ kind: "cpu", number: cpu, high: thin ? 9 : 28 });
   if (run.tracks.length > 0 && addSection("queues", "Queues", 24))
     run.tracks.forEach((_, number) => add({ kind: "track", number, high: 30 }));

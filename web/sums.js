@@ -38,21 +38,33 @@ function sumRuns(run) {
     }
   }
   run.idle = Array.from({ length: processors }, (_, cpu) => figuresOfCpu(run, cpu, 0, duration).waits);
-  run.waitsOnSome = run.tasks.some(({ cpus }) => cpus) ? waitsOnIdle(run) : run;
+  run.lost = lostTimes(run);
 }
 
-// For each millisecond the time before it in which a CPU was idle and a task waited that may run there.
-function waitsOnIdle({ processors, duration, cpuFrom, cpuLength, cpuStart, waitsOn, onlyParked }) {
-  const counts = new Uint8Array(duration), someWaited = new Uint32Array(duration + 2);
-  for (let cpu = 0; cpu < processors; cpu++) {
-    for (let i = cpuStart[cpu], ms = 0; i <= cpuStart[cpu + 1]; i++) {
-      const isLast = i === cpuStart[cpu + 1], sums = waitsOn[cpu].someWaited;
-      for (const end = isLast ? duration : cpuFrom[i]; ms < end; ms++) counts[ms] |= sums[ms + 1] - sums[ms];
-      if (!isLast) ms += cpuLength[i];
+// For each millisecond the time before it for which CPUs, added up, were idle while a task waited that may run there, and while
+// such tasks were parked and none waited.
+function lostTimes(run) {
+  const { duration, waitsOn } = run, [someWaited, onlyParked] = [0, 1].map(() => new Uint32Array(duration + 2));
+  for (const waits of new Set(waitsOn)) {
+    const idle = countIdle(run, (cpu) => waitsOn[cpu] === waits);
+    for (let ms = 0, waited = 0, parked = 0; ms < duration; ms++) {
+      someWaited[ms + 1] += waited += idle[ms] * (waits.someWaited[ms + 1] - waits.someWaited[ms]);
+      onlyParked[ms + 1] += parked += idle[ms] * (waits.onlyParked[ms + 1] - waits.onlyParked[ms]);
     }
   }
-  for (let ms = 0; ms <= duration; ms++) someWaited[ms + 1] = someWaited[ms] + (counts[ms] ?? 0);
   return { duration, someWaited, onlyParked };
+}
+
+// The number of CPUs that count and were idle, by millisecond.
+function countIdle({ processors, duration, cpuFrom, cpuLength, cpuStart }, counts) {
+  const idle = new Int32Array(duration + 1);
+  for (let cpu = 0; cpu < processors; cpu++) {
+    if (!counts(cpu)) continue;
+    idle[0]++;
+    for (let i = cpuStart[cpu]; i < cpuStart[cpu + 1]; i++) { idle[cpuFrom[i]]--; idle[cpuFrom[i] + cpuLength[i]]++; }
+  }
+  for (let ms = 1; ms <= duration; ms++) idle[ms] += idle[ms - 1];
+  return idle;
 }
 
 const mayRunOn = ({ cpus }, cpu) => !cpus || cpus.includes(cpu);
@@ -211,7 +223,7 @@ const beginsPeriod = ({ period }, at, cell) => Math.floor(at / period) > Math.fl
 // The queues in which tasks waited: for each the sum of their waits before each cell. The CPUs' own queues are one.
 function sumQueues(run) {
   const { duration, count, from, length, cpu, queue } = run, used = new Map();
-  for (let i = 0; i < count; i++) if (cpu[i] === NOWHERE && queue[i] !== PARKED) used.set(Math.min(queue[i], LOCAL), null);
+  for (let i = 0; i < count; i++) if (length[i] > 0 && cpu[i] === NOWHERE && queue[i] !== PARKED) used.set(Math.min(queue[i], LOCAL), null);
   let cell = 1;
   while (used.size * (duration / cell) > 4e6) cell *= 2;
   const cells = Math.ceil(duration / cell), row = cells + 1;
@@ -219,7 +231,7 @@ function sumQueues(run) {
     sums: new Uint32Array(row), offsets: new Int32Array(row + 1), counts: new Int32Array(row + 1) }));
   for (const track of run.tracks) used.set(track.queue, track);
   for (let i = 0; i < count; i++) {
-    if (cpu[i] === NOWHERE && queue[i] !== PARKED) addInterval(used.get(Math.min(queue[i], LOCAL)), cell, from[i], from[i] + length[i]);
+    if (length[i] > 0 && cpu[i] === NOWHERE && queue[i] !== PARKED) addInterval(used.get(Math.min(queue[i], LOCAL)), cell, from[i], from[i] + length[i]);
   }
   for (const track of run.tracks) sumTrack(track, row);
 }
@@ -310,7 +322,7 @@ function waitIn({ waits, begin }, k, from, until) {
   return Math.max(0, bar - waits.less[k] + (from === 0 && begin === 0 ? waits.more[k] : 0));
 }
 
-// Adds up all waits by the clock, keeps the longest ones, and finds those that stand out: at least a twentieth of what is
+// Adds up all waits by the clock, keeps the longest ones, and finds those that have frames: at least a twentieth of what is
 // shown, and four times as long as the others on average; and the one that ended in a stall.
 function findWaits(run) {
   const worst = [], long = [], { tasks, duration, ended } = run;
