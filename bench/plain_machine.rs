@@ -9,7 +9,7 @@ use crate::plain_tasks::{DEFAULT_SLICE, NEVER, NOBODY, NOWHERE};
 use crate::plain_run::{Op, run};
 use crate::plain_slots::{CALL, Slot, WIDE};
 use crate::plain_verify::{CALLBACKS, Callback, Callback::*, verify};
-use crate::plain_world::{Eject, Insert, NO_CPU, NONE, World};
+use crate::plain_world::{Eject, Fault, Insert, World};
 use crate::plain_text;
 use std::io::{self, Write};
 
@@ -71,7 +71,7 @@ impl<N: Notes> Machine<N> {
         }
         for task in 0..machine.world.count {
             machine.begin_with(Enable, task);
-            if machine.world.call.fault != NONE {
+            if machine.world.call.fault.is_some() {
                 return Err("init -22".to_string());
             }
         }
@@ -98,7 +98,7 @@ impl<N: Notes> Machine<N> {
         self.world.begin(callback, task, 0);
         let is_there = !self.programs[callback as usize].is_empty();
         let answer = if is_there { self.run(callback, [pid(task), 0, 0]) } else { 0 };
-        if self.world.call.fault == NONE { answer } else { -22i64 as u64 }
+        if self.world.call.fault.is_none() { answer } else { -22i64 as u64 }
     }
 
     /// Runs a callback while the policy is in force, and answers what its program does; else 0.
@@ -109,11 +109,11 @@ impl<N: Notes> Machine<N> {
             return 0;
         }
         let answer = self.run(callback, given);
-        if callback == SelectCpu && self.world.call.fault == NONE && answer >= self.world.cpus.into() {
-            self.world.call.fault = NO_CPU;
+        if callback == SelectCpu && self.world.call.fault.is_none() && answer >= self.world.cpus.into() {
+            self.world.call.fault = Some(Fault::NoCpu);
         }
-        if self.world.call.fault != NONE {
-            self.eject(Eject::Fault(self.world.call.fault, self.world.clock));
+        if let Some(fault) = self.world.call.fault {
+            self.eject(Eject::Fault(fault as u8, self.world.clock));
         }
         answer
     }

@@ -9,26 +9,26 @@ use std::os::fd::AsFd;
 
 /// What takes notes of what happens. Queues go by their places in the world.
 pub trait Notes {
-    fn wake(&mut self, task: u16);
-    fn sleep(&mut self, task: u16);
-    fn insert(&mut self, task: u16, queue: usize);
-    fn moved(&mut self, task: u16, cpu: u32);
-    fn run(&mut self, task: u16, cpu: u32);
-    fn stop(&mut self, task: u16, cpu: u32);
-    fn idle(&mut self, cpu: u32);
-    fn weight(&mut self, group: usize, weight: u32);
-    fn stall(&mut self, task: u16);
-    fn fault(&mut self, fault: u8);
+    fn wake(&mut self, _task: u16) {}
+    fn sleep(&mut self, _task: u16) {}
+    fn insert(&mut self, _task: u16, _queue: usize) {}
+    fn moved(&mut self, _task: u16, _cpu: u32) {}
+    fn run(&mut self, _task: u16, _cpu: u32) {}
+    fn stop(&mut self, _task: u16, _cpu: u32) {}
+    fn idle(&mut self, _cpu: u32) {}
+    fn weight(&mut self, _group: usize, _weight: u32) {}
+    fn stall(&mut self, _task: u16) {}
+    fn fault(&mut self, _fault: u8) {}
     /// Ticks come once in a millisecond, the first CPU's first, so those that change nothing may be left out.
     const IS_DRIVEN: bool = true;
     /// The clock grew by 1.
-    fn clock(&mut self, ms: u64);
+    fn clock(&mut self, _ms: u64) {}
     /// The clock grew by more.
     fn jump(&mut self, ms: u64) {
         self.clock(ms);
     }
     /// A queue of the policy has that id.
-    fn queue(&mut self, queue: usize, id: u64);
+    fn queue(&mut self, _queue: usize, _id: u64) {}
     /// A program of that callback came to its end after so many instructions.
     fn ran(&mut self, _callback: Callback, _instructions: u64) {}
     /// A task waits with the slice that it has.
@@ -38,20 +38,7 @@ pub trait Notes {
 /// Takes no notes.
 pub struct Silence;
 
-impl Notes for Silence {
-    fn wake(&mut self, _: u16) {}
-    fn sleep(&mut self, _: u16) {}
-    fn insert(&mut self, _: u16, _: usize) {}
-    fn moved(&mut self, _: u16, _: u32) {}
-    fn run(&mut self, _: u16, _: u32) {}
-    fn stop(&mut self, _: u16, _: u32) {}
-    fn idle(&mut self, _: u32) {}
-    fn weight(&mut self, _: usize, _: u32) {}
-    fn stall(&mut self, _: u16) {}
-    fn fault(&mut self, _: u8) {}
-    fn clock(&mut self, _: u64) {}
-    fn queue(&mut self, _: usize, _: u64) {}
-}
+impl Notes for Silence {}
 
 /// A text of at most so many bytes, and how many it has.
 #[derive(Clone, Copy)]

@@ -1,5 +1,10 @@
 //! Slots of eight bytes, which stay as they are: decoding only checks them.
 
+/// The source of a wide instruction that is a map and no number.
+pub const MAP: u8 = 5;
+/// Slots of a program.
+pub const MOST: usize = 4096;
+
 /// An instruction, or the second half of one of two slots, whose opcode is 0.
 #[derive(Clone, Copy, PartialEq)]
 pub struct Slot(pub u64);
@@ -56,10 +61,6 @@ pub const GOTO: u8 = 0x05;
 pub const GOTO_LONG: u8 = 0x06;
 pub const CALL: u8 = 0x85;
 pub const EXIT: u8 = 0x95;
-/// The source of a wide instruction that is a map and no number.
-pub const MAP: u8 = 5;
-/// Slots of a program.
-pub const MOST: usize = 4096;
 
 const DESTINATION: u64 = 0xf00;
 const SOURCE: u64 = 0xf000;

@@ -83,14 +83,6 @@ impl Notes for Watch {
         }
     }
 
-    fn stop(&mut self, _: u16, _: u32) {}
-    fn idle(&mut self, _: u32) {}
-    fn weight(&mut self, _: usize, _: u32) {}
-    fn stall(&mut self, _: u16) {}
-    fn fault(&mut self, _: u8) {}
-    fn clock(&mut self, _: u64) {}
-    fn queue(&mut self, _: usize, _: u64) {}
-
     fn ran(&mut self, callback: Callback, instructions: u64) {
         let most = &mut self.most[callback as usize];
         *most = (*most).max(instructions);

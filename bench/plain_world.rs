@@ -7,15 +7,10 @@ use crate::plain_run::{Host, Maps};
 use crate::plain_tasks::{Calendar, DEFAULT_SLICE, NEVER, NOBODY, NOWHERE, Queue, Task, Tasks};
 use crate::plain_verify::{Callback, Field};
 
-pub const NO_QUEUE: u8 = 1;
-pub const CANNOT_INSERT: u8 = 2;
-pub const MIXED: u8 = 3;
-pub const BUILTIN_VTIME: u8 = 4;
-pub const NO_CPU: u8 = 5;
-pub const UNKNOWN_FLAG: u8 = 6;
-pub const CANNOT_CREATE: u8 = 7;
-/// No fault.
-pub const NONE: u8 = u8::MAX;
+/// Mistakes of a callback, by their numbers.
+#[derive(Clone, Copy, PartialEq)]
+#[rustfmt::skip]
+pub enum Fault { NoQueue = 1, CannotInsert, Mixed, BuiltinVtime, NoCpu, UnknownFlag, CannotCreate }
 
 const OWN_END: u64 = 1 << 63;
 const GLOBAL_ID: u64 = OWN_END + 1;
@@ -58,7 +53,7 @@ pub struct Call {
     pub cpu: u32,
     pub insert: Option<Insert>,
     pub has_moved: bool,
-    pub fault: u8,
+    pub fault: Option<Fault>,
 }
 
 /// A group, with how many tasks are runnable in it or below it.
@@ -187,7 +182,7 @@ impl<N: Notes> World<N> {
             sums: vec![0; workload.groups.len() + 1],
             is_limited: workload.groups.iter().any(|group| group.quota.is_some()),
             beat: workload.groups.iter().fold(0, |beat, group| common_divisor(beat, group.period)),
-            call: Call { callback: Callback::Init, task: 0, cpu: 0, insert: None, has_moved: false, fault: NONE },
+            call: Call { callback: Callback::Init, task: 0, cpu: 0, insert: None, has_moved: false, fault: None },
             ejected: None,
             builtin_clock: 0,
             oldest: 0,
@@ -542,14 +537,14 @@ impl<N: Notes> World<N> {
 
     #[inline(always)]
     pub fn begin(&mut self, callback: Callback, task: u16, cpu: u32) {
-        self.call = Call { callback, task, cpu, insert: None, has_moved: false, fault: NONE };
+        self.call = Call { callback, task, cpu, insert: None, has_moved: false, fault: None };
     }
 
     #[inline(always)]
-    fn answer(&mut self, answer: Result<u64, u8>) -> u64 {
+    fn answer(&mut self, answer: Result<u64, Fault>) -> u64 {
         answer.unwrap_or_else(|fault| {
-            if self.call.fault == NONE {
-                self.call.fault = fault;
+            if self.call.fault.is_none() {
+                self.call.fault = Some(fault);
             }
             INVALID
         })
@@ -557,22 +552,22 @@ impl<N: Notes> World<N> {
 
     /// The place of a queue of the policy.
     #[inline(always)]
-    fn own(&self, id: u64) -> Result<usize, u8> {
+    fn own(&self, id: u64) -> Result<usize, Fault> {
         let found = self.queues[..self.own & 31].iter().position(|queue| queue.id == id);
-        found.ok_or(NO_QUEUE)
+        found.ok_or(Fault::NoQueue)
     }
 
     /// The place of a queue into which a policy inserts.
     #[inline(always)]
-    fn place(&self, id: u64) -> Result<usize, u8> {
+    fn place(&self, id: u64) -> Result<usize, Fault> {
         match id {
             _ if id < OWN_END => self.own(id),
             GLOBAL_ID => Ok(GLOBAL),
             LOCAL_ID => Ok(LOCAL_HERE),
-            _ if id < LOCAL_ON => Err(NO_QUEUE),
+            _ if id < LOCAL_ON => Err(Fault::NoQueue),
             _ if id - LOCAL_ON < self.cpus.into() => Ok(LOCAL + (id - LOCAL_ON) as usize),
-            _ if id - LOCAL_ON < 1 << 32 => Err(NO_CPU),
-            _ => Err(NO_QUEUE),
+            _ if id - LOCAL_ON < 1 << 32 => Err(Fault::NoCpu),
+            _ => Err(Fault::NoQueue),
         }
     }
 
@@ -585,22 +580,22 @@ impl<N: Notes> World<N> {
     }
 
     #[inline(always)]
-    fn insert(&mut self, given: &[u64; 11], vtime: Option<u64>, flags: u64) -> Result<u64, u8> {
+    fn insert(&mut self, given: &[u64; 11], vtime: Option<u64>, flags: u64) -> Result<u64, Fault> {
         let [_, pointer, id, slice, ..] = *given;
         let task = task_of(pointer);
         if !self.may_insert(task) {
-            return Err(CANNOT_INSERT);
+            return Err(Fault::CannotInsert);
         }
         if flags > 1 {
-            return Err(UNKNOWN_FLAG);
+            return Err(Fault::UnknownFlag);
         }
         let queue = self.place(id)?;
         if vtime.is_some() && id >= OWN_END {
-            return Err(BUILTIN_VTIME);
+            return Err(Fault::BuiltinVtime);
         }
         let others = &self.queues[queue & 127];
         if others.length > 0 && others.is_by_vtime != vtime.is_some() {
-            return Err(MIXED);
+            return Err(Fault::Mixed);
         }
         let insert = Insert { queue, slice, vtime };
         if self.call.callback == Callback::Dispatch {
@@ -613,10 +608,10 @@ impl<N: Notes> World<N> {
         Ok(0)
     }
 
-    fn create(&mut self, id: u64) -> Result<u64, u8> {
+    fn create(&mut self, id: u64) -> Result<u64, Fault> {
         let is_free = id < OWN_END && self.own < GLOBAL && self.own(id).is_err();
         if !is_free {
-            return Err(CANNOT_CREATE);
+            return Err(Fault::CannotCreate);
         }
         self.queues[self.own].id = id;
         self.notes.queue(self.own, id);
@@ -625,7 +620,7 @@ impl<N: Notes> World<N> {
     }
 
     #[inline(always)]
-    fn move_to_local(&mut self, id: u64) -> Result<u64, u8> {
+    fn move_to_local(&mut self, id: u64) -> Result<u64, Fault> {
         let queue = self.own(id)?;
         if self.length(queue) == 0 {
             return Ok(0);
@@ -637,8 +632,8 @@ impl<N: Notes> World<N> {
         Ok(1)
     }
 
-    fn ask_idle(&self, cpu: u64) -> Result<u64, u8> {
-        if cpu < self.cpus.into() { Ok(self.is_idle(cpu as u32).into()) } else { Err(NO_CPU) }
+    fn ask_idle(&self, cpu: u64) -> Result<u64, Fault> {
+        if cpu < self.cpus.into() { Ok(self.is_idle(cpu as u32).into()) } else { Err(Fault::NoCpu) }
     }
 }
 
