@@ -22,18 +22,21 @@ PAIRS = [(policy, workload) for policy in sorted(EXAMPLES.glob("policies/*.toml"
 # Each fifth pair has each policy and each workload.
 SOME_AND_ALL = pytest.mark.parametrize(
     "pairs", [pytest.param(PAIRS[::5], id="some"), pytest.param(PAIRS, id="all", marks=pytest.mark.slow)])
-HEAD = '{"ph":"M","pid":1,"tid":0,"name":"thread_name","args":{"name":"cpu 0"}}'
+HEAD = ['{"ph":"M","pid":1,"tid":0,"name":"thread_name","args":{"name":"CPU 0"}}',
+        '{"ph":"M","pid":5,"tid":0,"name":"thread_name","args":{"name":"a"}}',
+        '{"ph":"M","pid":5,"tid":1,"name":"thread_name","args":{"name":"b"}}']
 
 
 def timeline(tmp_path, *events):
-    """A timeline of one processor: `wake` and `insert` as (what, task, ms), slices as (`run`, task, ms, length)."""
-    lines = [HEAD]
+    """A timeline of one CPU: (`wake`, task, ms), and slices of `run` and `wait` as (what, task, ms, length)."""
+    lines = list(HEAD)
     for what, task, at, *length in events:
         if what == "run":
             lines.append(f'{{"ph":"X","pid":1,"tid":0,"ts":{at * 1000},"dur":{length[0] * 1000},"name":"{task}"}}')
+        elif what == "wait":
+            lines.append(f'{{"ph":"X","pid":5,"tid":{"ab".index(task)},"ts":{at * 1000},"dur":{length[0] * 1000},"name":"queue 0"}}')
         else:
-            track, name = (0, task) if what == "wake" else (1, f"{task} to queue 0")
-            lines.append(f'{{"ph":"i","pid":2,"tid":{track},"ts":{at * 1000},"name":"{name}"}}')
+            lines.append(f'{{"ph":"i","pid":2,"tid":0,"ts":{at * 1000},"name":"{task}"}}')
     path = tmp_path / "t.json"
     path.write_text('{"displayTimeUnit":"ms","traceEvents":[\n' + ",\n".join(lines) + "\n]}")
     return path
@@ -42,8 +45,8 @@ def timeline(tmp_path, *events):
 def test_bursts_and_sleeps_are_those_between_wakes(tmp_path):
     # a: 2 ms from 0 on, sleeps 3, 1 ms from 5 and 1 from 8, sleeps 3 again, and runs as the run ends. b never sleeps.
     path = timeline(tmp_path, ("wake", "a", 0), ("wake", "b", 0), ("run", "a", 0, 2), ("run", "b", 2, 3), ("wake", "a", 5),
-                    ("run", "a", 5, 1), ("insert", "a", 6), ("run", "b", 6, 2), ("run", "a", 8, 1), ("run", "b", 9, 3),
-                    ("insert", "b", 12), ("wake", "a", 12), ("run", "a", 12, 1))
+                    ("run", "a", 5, 1), ("run", "b", 6, 2), ("wait", "a", 6, 2), ("run", "a", 8, 1), ("run", "b", 9, 3),
+                    ("wake", "a", 12), ("run", "a", 12, 1), ("wait", "b", 12, 1))
     plan = tomllib.loads(fit(path))
     assert (plan["cpus"], plan["ms"]) == (1, 13)
     assert plan["task"] == [{"name": "a", "group": "all", "start": 0, "run": 2, "sleep": 3},
@@ -143,7 +146,7 @@ def test_a_timeline_is_not_kept_while_it_is_read():
     lines = (f'{{"ph":"X","pid":1,"tid":0,"ts":{at * 1000},"dur":1000,"name":"a"}},\n' for at in range(8000))
     wake = '{"ph":"i","pid":2,"tid":0,"ts":0,"name":"a"},\n'
     tracemalloc.start()
-    recording = read_timeline("t", chain([HEAD, wake], lines))
+    recording = read_timeline("t", chain([*HEAD, wake], lines))
     most = tracemalloc.get_traced_memory()[1]
     tracemalloc.stop()
     assert recording.ran("a") == 8000 and most < 2_000_000

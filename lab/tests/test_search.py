@@ -69,7 +69,7 @@ def test_the_same_seed_finds_the_same(policies, template):
 
 
 def test_figures_that_are_counted_from_traces_can_be_a_goal(policies, template):
-    # One burst of r ms takes the longest behind three slices: 60 ms and its own r, by r, so 61 with r = 1.
+    # One burst of r ms takes the longest after three slices: 60 ms and its own r, by r, so 61 with r = 1.
     best = found(policies / "fifo.toml", template, "max slowdown(a)", runs=60).best
     assert best.score == 61 and best.numbers["task.1.run"] == 1
 

@@ -19,6 +19,9 @@ MARKS = ["o", "s", "^", "x", "D", "v"]
 HATCHES = ["", "///", "\\\\\\", "xxx", "---", "|||"]
 GREYS = ["#111111", "#555555", "#777777", "#333333", "#999999", "#444444"]
 SETTINGS = {"svg.hashsalt": "scxlab", "svg.fonttype": "none", "font.size": 10, "hatch.linewidth": 0.6}
+# Charts are grey, so on dark paper they are turned over: #141414 for white, #ebebeb for black.
+DARK = "@media (prefers-color-scheme: dark) {#figure_1 {filter: invert(0.92)}}"
+STYLE = '<style type="text/css">'
 # Bars of one place are together as wide as this.
 WIDTH = 0.8
 
@@ -30,7 +33,7 @@ def svg_of(draw: Callable[[Any], object], width: float, height: float) -> Pictur
         draw(figure)
         target = io.StringIO()
         figure.savefig(target, format="svg", metadata={"Date": None, "Creator": None})
-    text = target.getvalue()
+    text = target.getvalue().replace(STYLE, STYLE + DARK, 1)
     return Picture(text[text.index("<svg") :])
 
 

@@ -214,8 +214,8 @@ def add_search(commands: "argparse._SubParsersAction[argparse.ArgumentParser]") 
     one.add_argument("--runs", type=at_least_one, default=1000, metavar="N",
                      help="look at N workloads, then shrink; default: 1000")
     one.add_argument("--seed", type=int, default=0, metavar="N", help="the same seed finds the same; default: 0")
-    one.add_argument("--output", metavar="F", help="write the workload to this file")
     add_workers(one)
+    one.add_argument("--output", metavar="F", help="write the workload to this file")
     one.set_defaults(do=search_command)
 
 

@@ -34,14 +34,14 @@ class Measure:
 
 
 # The metrics of a whole run.
-OF_RUN = [
-    Measure("run", "share_off_percent", "share off, %", "less", 1),
-    Measure("run", "mean_wait_ms", "mean wait, ms", "less", 1),
-    Measure("run", "longest_wait_ms", "longest wait, ms", "less", 1),
-    Measure("run", "slowdown", "slowdown", "less", 1),
-    Measure("run", "changes", "changes", "less", 10),
-    Measure("run", "idle_while_waiting_ms", "idle, ms", "less", 1),
-]
+OF_RUN = [Measure("run", *row) for row in (
+    ("share_off_percent", "share off, %", "less", 1),
+    ("mean_wait_ms", "mean wait, ms", "less", 1),
+    ("longest_wait_ms", "longest wait, ms", "less", 1),
+    ("slowdown", "slowdown", "less", 1),
+    ("changes", "changes", "less", 10),
+    ("idle_while_waiting_ms", "idle, ms", "less", 1),
+)]
 OF_NAMES = [
     Measure("group", "share_percent", "share in %, best where nearest to what is due", "due", 1),
     Measure("task", "mean_wait_ms", "mean wait in ms, less is better", "less", 1),

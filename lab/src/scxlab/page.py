@@ -19,7 +19,6 @@ STYLE = """
 :root { color-scheme: light dark; --paper: #ffffff; --ink: #1b1f24; --faint: #5a626a; --line: #d9dde1; --band: #f3f5f7; --link: #005a8c; }
 @media (prefers-color-scheme: dark) {
   :root { --paper: #14171b; --ink: #e8eaed; --faint: #9aa3ab; --line: #343a41; --band: #1c2025; --link: #79bdf0; }
-  .chart { filter: invert(1); }
 }
 * { box-sizing: border-box; }
 body { margin: 0 auto; max-width: 90em; padding: 12px 16px; background: var(--paper); color: var(--ink); font: 14px/1.4 system-ui, "DejaVu Sans", sans-serif; }

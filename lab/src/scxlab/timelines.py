@@ -8,11 +8,11 @@ from typing import Any
 from scxlab.errors import LabError
 from scxlab.recording import Burst, Recording
 
-# The events that are read, by how their lines begin (docs/FILES.md, Timeline and picture): a task ran or was parked,
-# or it woke, came to a queue or was moved, or the policy was ejected.
-READ = ('{"ph":"X","pid":1,', '{"ph":"X","pid":4,', '{"ph":"i","pid":2,')
-A_CPU = '{"ph":"M","pid":1,'
-RUNS, WAKE, INSERT, EJECTION = ("X", 1), ("i", 0), ("i", 1), ("i", 3)
+# The events that are read, by how their lines begin (docs/FILES.md, Timeline and picture): a task ran, was parked or waited
+# in a queue, or it woke, or the policy was ejected.
+READ = ('{"ph":"X","pid":1,', '{"ph":"X","pid":4,', '{"ph":"X","pid":5,', '{"ph":"i","pid":2,')
+A_CPU, A_TASK = '{"ph":"M","pid":1,', '{"ph":"M","pid":5,'
+RUNS, PARKED, WAITS, WAKE, EJECTION = ("X", 1), ("X", 4), ("X", 5), ("i", 0), ("i", 1)
 
 
 @dataclass
@@ -48,6 +48,7 @@ class Reader:
 
     def __init__(self) -> None:
         self.tasks: dict[str, Seen] = {}
+        self.names: dict[int, str] = {}
         self.cpus, self.at, self.is_ejected = 0, 0, False
 
     def line(self, text: str) -> None:
@@ -56,14 +57,19 @@ class Reader:
             self.event(event, event["ts"] // 1000, event.get("dur", 0) // 1000)
         elif text.startswith(A_CPU):
             self.cpus += '"thread_name"' in text
+        elif text.startswith(A_TASK) and '"thread_name"' in text:
+            title = json.loads(text.rstrip(",\n"))
+            self.names[title["tid"]] = title["args"]["name"]
 
     def event(self, event: dict[str, Any], at: int, length: int) -> None:
         self.at = max(self.at, at + length)
         track = event["ph"], event["pid"] if event["ph"] == "X" else event["tid"]
         if track == WAKE:
             self.tasks.setdefault(event["name"], Seen()).wake(at)
-        elif track == INSERT:
-            self.tasks[event["name"].split()[0]].inserted = at
+        elif track == WAITS:
+            self.tasks[self.names[event["tid"]]].inserted = at
+        elif track == PARKED:
+            self.tasks[event["name"]].inserted = at
         elif track == RUNS:
             self.tasks[event["name"]].run(at, length)
         elif track == EJECTION:
