@@ -5,7 +5,7 @@ from functools import lru_cache
 
 LARGEST = 1000000	# characters of all programs; the host reads files of 1,048,576 bytes
 WIDE = 0x18		# the code of an instruction of two slots
-COLUMN = 24		# comments begin here, or behind a longer instruction
+COLUMN = 24		# comments begin here, or after a longer instruction
 
 
 @lru_cache(None)

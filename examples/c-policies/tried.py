@@ -17,7 +17,7 @@ ADVICE = [
     (r"isn't held", "insert in dispatch only tasks that enqueue took and inserted nowhere"),
     (r"tasks wait in .* (by virtual time|in order of arrival)", "fill a queue by scx_bpf_dsq_insert_vtime alone, or never by it"),
     (r"by virtual time into", "insert there by scx_bpf_dsq_insert, or by virtual time into a queue that init creates"),
-    (r"no processor", "compare the number with that of the CPUs first"),
+    (r"no CPU", "compare the number with that of the CPUs first"),
     (r"queue \d+ is there", "create each queue once"),
     (r"16 queues are there", "create 16 queues at most"),
     (r"a queue's number is below", "number the queues from 0"),

@@ -28,8 +28,8 @@ void BPF_STRUCT_OPS(fifo_exit, struct scx_exit_info *ei)
 }
 
 SCX_OPS_DEFINE(fifo_ops,
+	       .name = "fifo",
 	       .enqueue = (void *)fifo_enqueue,
 	       .dispatch = (void *)fifo_dispatch,
 	       .init = (void *)fifo_init,
-	       .exit = (void *)fifo_exit,
-	       .name = "fifo");
+	       .exit = (void *)fifo_exit);

@@ -10,11 +10,11 @@ def variable_addresses(read):
     for at, (one, symbol) in enumerate(read):
         known = {} if at in targets else dict(known)
         before.append(known)
-        known = behind(one, symbol, known)
+        known = known_after(one, symbol, known)
     return before
 
 
-def behind(one, symbol, known):
+def known_after(one, symbol, known):
     known = dict(known)
     if one.code == slots.CALL:
         return {register: place for register, place in known.items() if register > 5}

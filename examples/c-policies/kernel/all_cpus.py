@@ -42,7 +42,7 @@ def reached_lists(lists):
 
 
 def goes_on(instructions):
-    """Whether the next list may come next. A jump without a target may lead behind the last instruction."""
+    """Whether the next list may come next. A jump without a target may lead past the last instruction."""
     if not instructions or any(one.is_jump() and one.target is None for one in instructions):
         return True
     last = instructions[-1]

@@ -31,7 +31,7 @@ def stack_depth(instructions):
 
 
 def reads_second_argument(instructions):
-    """Whether r2 is read before anything writes it, as the lines stand."""
+    """Whether r2 is read before anything writes it, as the lines are."""
     for one in instructions:
         kind = one.code & 7
         reads_source = kind in (1, 3) or kind in (4, 5, 6, 7) and one.code & 8
@@ -47,7 +47,7 @@ def is_error(one, symbol):
 
 
 def go_on_if_zero(target, place, rules):
-    """Behind init_task: enable comes next if it answered 0. Else the policy is refused, as in a kernel: by Linux rules with
+    """After init_task: enable comes next if it answered 0. Else the policy is refused, as in a kernel: by Linux rules with
     that answer, by plain rules by a call with a fault."""
     jump = slots.Instruction(0x16, 0, 0, 0, 0, place, target)
     with_answer = [slots.move(1, 0), *slots.sign_extended(1), slots.move_number(2, 0), slots.call(1010)]
@@ -89,7 +89,7 @@ class Callback:
         return self.used
 
     def cells(self, count):
-        """The lowest of so many cells."""
+        """The lowest of `count` cells."""
         return [self.cell() for _ in range(count)][-1]
 
     def asks_for_cpu(self):

@@ -20,7 +20,7 @@ class Copies:
         for at, one in enumerate(instructions):
             known = {} if at in targets else known
             self.before.append(dict(known))
-            known = behind(one, known, at)
+            known = known_after(one, known, at)
 
     def of_tested(self, one, at):
         """The other places that hold what is tested for NULL there."""
@@ -30,8 +30,8 @@ class Copies:
         return [place for place, call in known.items() if call == known[one.dst] and place != one.dst]
 
 
-def behind(one, known, at):
-    """What is known behind an instruction: registers are numbers, cells of the stack pairs, and each has its call."""
+def known_after(one, known, at):
+    """What is known after an instruction: registers are numbers, cells of the stack pairs, and each has its call."""
     known, kind = dict(known), one.code & 7
     if one.code == slots.CALL:
         known = {place: call for place, call in known.items() if place not in range(6)}

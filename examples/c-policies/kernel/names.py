@@ -75,7 +75,7 @@ FLAGS = ["SCX_OPS_KEEP_BUILTIN_IDLE", "SCX_OPS_ENQ_LAST", "SCX_OPS_ENQ_EXITING",
 FLAGS += [f"flag {bit}" for bit in range(7, 16)] + ["SCX_OPS_HAS_CGROUP_WEIGHT"]
 FLAGS_OF_NO_MEANING = {
     "SCX_OPS_KEEP_BUILTIN_IDLE": "the host always knows which CPUs are idle",
-    "SCX_OPS_ENQ_LAST": "a task to whom nobody comes goes on by itself, and enqueue isn't called for it",
+    "SCX_OPS_ENQ_LAST": "a task that no other one replaces goes on by itself, and enqueue isn't called for it",
     "SCX_OPS_ENQ_EXITING": "tasks stay to the end of the workload",
     "SCX_OPS_SWITCH_PARTIAL": "all tasks of a workload are under the policy",
     "SCX_OPS_ENQ_MIGRATION_DISABLED": "each task may run on all CPUs",
@@ -219,7 +219,7 @@ FIELD_NOTES = {
 NO_FIELD = {
     "nr_cpus_allowed": "say how many there are, as build --set cpus=4",
     "comm": "tasks have no names here; p->pid is the number in the workload",
-    "tgid": "each task stands for itself; p->pid is its number in the workload",
+    "tgid": "each task is a process of its own; p->pid is its number in the workload",
     "real_parent": "tasks have no parents",
     "parent": "tasks have no parents",
     "mm": "tasks have no memory",

@@ -295,7 +295,7 @@ class Policy:
         return 1 if self.rules == "linux" else NEVER_THERE
 
     def message_number(self, symbol, one):
-        """The number that stands for a message."""
+        """The number of a message."""
         at = symbol.value + one.number
         message = text_at(symbol.section.content, at)
         if (message, one.place) not in self.messages:
@@ -303,7 +303,7 @@ class Policy:
         return self.first_message() + self.messages.index((message, one.place))
 
     def said_at(self, number):
-        """The message for which a number stands, with its line."""
+        """The message that has a number, with its line."""
         message, place = self.messages[number - self.first_message()]
         name = "scx_bpf_exit" if "scx_bpf_exit" in self.line_at(place) else "scx_bpf_error"
         return f"{name} at {place}: {quoted(message)}"

@@ -12,7 +12,7 @@ LOADS, NUMBER_STORES, STORES, ALU, LONG_ALU = 1, 2, 3, 4, 7
 
 
 class Registers:
-    """What is known before each instruction: a register is a task, or so many bytes above r10; a cell of the stack, by
+    """What is known before each instruction: a register is a task, or a distance in bytes above r10; a cell of the stack, by
     its place, is a task."""
 
     def __init__(self, callback, instructions):
@@ -24,7 +24,7 @@ class Registers:
         if instructions:
             self.before[0] = first
         for at, one in enumerate(instructions):
-            after = self.behind(one, dict(self.before[at]))
+            after = self.known_after(one, dict(self.before[at]))
             for following in slots.successors(instructions, at):
                 self.before[following] = {**after, **self.before[following]}
 
@@ -32,8 +32,8 @@ class Registers:
         """The registers that point to a task before an instruction."""
         return {place for place, fact in self.before[at].items() if fact == TASK and isinstance(place, int)}
 
-    def behind(self, one, state):
-        """What is known behind an instruction."""
+    def known_after(self, one, state):
+        """What is known after an instruction."""
         kind = one.code & 7
         if one.code == slots.CALL:
             state = {place: fact for place, fact in state.items() if place not in range(6)}

@@ -19,7 +19,7 @@ class Instruction:
     number: int = 0
     place: str = ""
     target: int = None	# of a jump: which of the instructions as they were read, counted from 0
-    note: str = ""	# what stands in the listing in place of the line of C
+    note: str = ""	# what the listing has in place of the line of C
 
     def is_jump(self):
         return self.code & 7 in (5, 6) and self.code & 0xf0 not in (0x80, 0x90)
@@ -61,7 +61,7 @@ def read(code):
 
 
 def successors(instructions, at):
-    """Where control goes behind an instruction: what it jumps to first, what comes next last."""
+    """Where control goes after an instruction: what it jumps to first, what comes next last."""
     one = instructions[at]
     to = [] if one.target is None else [one.target]
     ends = one.code == EXIT or one.target is not None and one.code in (GOTO, LONG_GOTO)
@@ -112,7 +112,7 @@ def forward(pairs):
 
 
 def moved(lists, distance):
-    """The same lists for a place so many lists further on."""
+    """The lists for a place `distance` lists further on."""
     turned = []
     for instructions in lists:
         turned.append([replace(one, target=None if one.target is None else one.target + distance) for one in instructions])

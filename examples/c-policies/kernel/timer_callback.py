@@ -33,7 +33,7 @@ class OfTimers(Callback):
         return slots.noted("by build: looks up the timer's value", [past, *key, *lookup(self.policy, shape, self.value_key), slots.move(3, 0)])
 
     def branch(self, shape, number, following):
-        """Goes on as a function with the arguments map, key and value where the timer has it, else behind that function."""
+        """Goes on as a function with the arguments map, key and value where the timer has it, else after that function."""
         other = slots.Instruction(0x55, 1, 0, 0, number, target=following)
         arguments = [slots.wide_number(1, self.policy.number_of_map(shape.symbol), 5), slots.move(2, 10), slots.add_number(2, -self.value_key)]
         said = f"by build: the function of the timer is {self.policy.timer_functions[number - FIRST_FUNCTION].name}, or another"

@@ -1,10 +1,10 @@
 /*
  * What a sched_ext policy in C uses of the kernel, under the kernel's names, for the host. build puts this folder
- * before all others, so a policy says #include <scx/common.bpf.h> here as there. docs/KERNEL.md says what stands
- * in for what, and what isn't here.
+ * before all others, so a policy says #include <scx/common.bpf.h> here as there. docs/KERNEL.md says what each
+ * name becomes, and what isn't here.
  *
  * What build has to know of the code is left to it in three ways: a kernel function that isn't declared here as an
- * INSTEAD is an unresolved symbol with its name; a field of a task stands where no map's value has a byte; and a
+ * INSTEAD is an unresolved symbol with its name; a field of a task is where no map's value has a byte; and a
  * NOTE is an instruction that no compiler writes.
  */
 #ifndef SCX_COMMON_BPF_H
@@ -54,7 +54,7 @@ typedef _Bool bool;
 #define memset(to, byte, size) __builtin_memset(to, byte, size)
 #define memcpy(to, from, size) __builtin_memcpy(to, from, size)
 
-/* Stands in for a function of the kernel. It has no lines of its own: its code has those of the caller. */
+/* Takes the place of a function of the kernel. It has no lines of its own: its code has those of the caller. */
 #define INSTEAD static inline __attribute__((always_inline, nodebug, unused))
 
 /* A jump to the next instruction, with a number in a field that jumps don't use. build takes it out and says what the number means. */
@@ -192,7 +192,7 @@ struct scx_init_task_args {
 };
 
 /*
- * A task. The numbers at which its fields stand are build's affair: it knows them by their names, refuses those
+ * A task. The offsets of its fields are build's affair: it knows them by their names, refuses those
  * that aren't here with the line, and writes the host's number for the others. All are volatile, since a load or
  * store takes a whole one.
  */
@@ -802,7 +802,7 @@ extern u32 scx_bpf_nr_cpu_ids(void);
 #endif
 
 /*
- * Masks of CPUs are numbers, and two of them stand for all CPUs and for those that are idle. By Linux rules any other
+ * Masks of CPUs are numbers, and two of them mean all CPUs and those that are idle. By Linux rules any other
  * has a bit for each CPU, as p->cpus_ptr has for those on which the task may run. By plain rules each task may run on
  * all of them, and build loads HOST_ALL as p->cpus_ptr. Which CPUs are idle is asked when a mask is looked at, and not
  * claimed.
@@ -1102,7 +1102,7 @@ extern void host_error(const char *message) asm("scx_bpf_error");
 
 /*
  * A pointer to an element of an array of a known length, or NULL. Clang knows nothing of the index before the test, nor
- * that it is the same behind it, so it adds the tested one, and behind the test. A length that is a variable is tested
+ * that it is the same after it, so it adds the tested one, and after the test. A length that is a variable is tested
  * first, and then that of the array, which the host knows.
  */
 #define ARRAY_ELEM_PTR(array, index, length) \
