@@ -33,7 +33,7 @@ s32 BPF_STRUCT_OPS(lines_select_cpu, struct task_struct *p, s32 prev_cpu, u64 wa
 {
 	bool is_idle = false;
 	s32 cpu = scx_bpf_select_cpu_dfl(p, prev_cpu, wake_flags, &is_idle);
-
+	/* An idle CPU takes it at once. */
 	if (is_idle)
 		scx_bpf_dsq_insert(p, SCX_DSQ_LOCAL, slice_ns, 0);
 	return cpu;
@@ -96,11 +96,11 @@ s32 BPF_STRUCT_OPS_SLEEPABLE(lines_init)
 }
 
 SCX_OPS_DEFINE(lines_ops,
+	       .name = "lines",
 	       .select_cpu = (void *)lines_select_cpu,
 	       .enqueue = (void *)lines_enqueue,
 	       .dispatch = (void *)lines_dispatch,
-	       .running = (void *)lines_running,
 	       .enable = (void *)lines_enable,
-	       .init = (void *)lines_init,
 	       .timeout_ms = 200,
-	       .name = "lines");
+	       .running = (void *)lines_running,
+	       .init = (void *)lines_init);

@@ -19,7 +19,7 @@ printing, making, running = Lock(), Lock(), set()
 
 class Part(NamedTuple):
     """A part: its command, or several with `&&` between them; whether it depends on the program; whether it installs
-    bin/scxsim itself; a tool that it wants. In commands PROGRAM stands for the program, PLAIN for the plain simulator of
+    bin/scxsim itself; a tool that it wants. In commands PROGRAM means the program, PLAIN the plain simulator of
     bench/, PAIRS for a folder of random pairs of files, QUOTAS for one of pairs with quotas, SEED for their seed."""
     commands: str
     of_program: bool = True
@@ -60,7 +60,7 @@ class Surroundings:
         return "bin/scxsim is of other sources"
 
     def has(self, tool):
-        """Whether a tool is there; rustc may be there without a compiler behind it."""
+        """Whether a tool is there; rustc may be there without a compiler."""
         return bool(shutil.which(tool)) and (tool != "rustc" or self.run(["rustc", "--version"])[0] == 0)
 
     def made_once(self, name, words):
@@ -75,7 +75,7 @@ class Surroundings:
             return self.made[name]
 
     def meaning(self, word):
-        """What a word of a command stands for."""
+        """What a word of a command means."""
         match word:
             case "PROGRAM":
                 return str(self.program)
@@ -144,7 +144,7 @@ def timed(surroundings, name, part):
 
 
 def results_of(parts, lanes, seed, count, seconds=None):
-    """What became of the parts, so many side by side. An interrupt ends all that runs."""
+    """What became of the parts, that many side by side. An interrupt ends all that runs."""
     signal.signal(signal.SIGTERM, signal.default_int_handler)
     with tempfile.TemporaryDirectory(prefix="parts.") as folder, ThreadPoolExecutor(lanes) as pool:
         surroundings = Surroundings(Path(folder), seed, count, seconds)

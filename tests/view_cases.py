@@ -383,7 +383,44 @@ def bound(window, maker):
     window.expect("a stretch: " + window.text("tip"), window.text("tip").endswith("may run on CPU 0 alone"))
     window.expect("below its name", {"CPU 0 alone", "CPUs 0 to 1 and 3"} <= {words for words, *_ in window.written()})
     window.expect("in the legend", not any("idle while" in words for words in window.legend()))
-    window.same("of all CPUs", window.tell("run.waitsOnSome.someWaited[60]"), 0)
+    window.same("of all CPUs", window.tell("run.lost.someWaited[60]"), 0)
+
+
+# All tasks are inserted into the queue of CPU 1.
+CPU_1_ALONE = '''[code]
+select_cpu = "r0 = 1\\nexit"
+enqueue = "r4 = r2\\nr2 = 9223372036854775810 ll\\nr3 = 20000000\\ncall 1002\\nexit"
+'''
+
+
+def area(window, maker):
+    """More than 16 CPUs are an area at first: those that ran, by group, then those that were idle while a task waited."""
+    groups = [{"name": "one"}, {"name": "two"}, {"name": "none"}]
+    tasks = [{"name": f"t{task}", "group": "one" if task < 10 else "two"} for task in range(30)]
+    window.open(maker.page("area", FAIR, maker.workload("area", workload_text(40, 100, groups, tasks))))
+    first, second, paper = window.tell("[palette.names.tasks[0], palette.names.tasks[1], palette.names.paper]")
+    window.same("ten CPUs, twenty, and ten that were idle", area_at(window, 0.5, 40), [first] * 10 + [second] * 20 + [paper] * 10)
+    window.hover(50.5, 0)
+    window.expect("a tip: " + window.text("tip"), window.text("tip").startswith("30 of 40 CPUs ran at 50 mstwo on 20, one on 10"))
+    window.expect("in the legend", any(words.startswith("all CPUs as an area: those that ran, by group") for words in window.legend()))
+    window.open(maker.page("area_lost", maker.workload("cpu_1", CPU_1_ALONE), maker.workload("lost", workload_text(20, 100, groups, tasks))))
+    window.same("the time that was lost", window.tell("run.lost.someWaited[100]"), window.tell("run.idle.reduce((sum, ms) => sum + ms)"))
+    window.same("one CPU that ran", area_at(window, 0.5, 20)[0], first)
+    wrong = window.tell("palette.names.wrong")
+    window.expect("hatched up to the top", all(wrong in area_lines(window, 0.5, top, top + 0.1) for top in (0, 0.3, 0.6, 0.8)))
+
+
+def area_at(window, share, cpus):
+    """The colours of an area at that share of the chart's width, a quarter up in each CPU's height, from the lowest on."""
+    tops = [1 - (cpu + 0.25) / cpus for cpu in range(cpus)]
+    return [area_lines(window, share, top, top)[0] for top in tops]
+
+
+def area_lines(window, share, top, bottom):
+    """The colours of an area's pixels at that share of the width, from one share of its height to another."""
+    y, high = window.tell("[34 + view.rows[0].y - view.scroll + 3, view.rows[0].high - 9]")
+    x = 156 + share * chart_width(window)
+    return [window.pixel(x, y + line) for line in range(int(top * high), max(int(top * high) + 1, int(bottom * high)))]
 
 
 def changes_of_events(window, maker):
@@ -398,16 +435,24 @@ def changes_of_events(window, maker):
     window.same("in a part", window.tell("run.changes"), [[50, 0, 300]])
 
 
+MOVES_TWO = """[code]
+init = "r1 = 0\\ncall 1001\\nexit"
+enqueue = "r4 = r2\\nr2 = 0\\nr3 = 2000000\\ncall 1002\\nexit"
+dispatch = "r1 = 0\\ncall 1004\\nr1 = 0\\ncall 1004\\nexit"
+"""
+
+
 def last_wait(window, maker):
-    """A wait of the run's last millisecond by the clock has no stretch, and counts."""
-    tasks = [{"name": name, "group": "g"} for name in "ab"]
-    workload = maker.workload("last", workload_text(1, 20, [{"name": "g"}], tasks))
-    window.open(maker.page("last_wait", FAIR, workload))
-    stats = maker.stats(FAIR, workload)
-    window.same("as stats-csv has it", window.tell("[...run.longest]"),
-                [int(stats["task", name, "longest_wait_ms"]) for name in "ab"])
-    window.figures()
-    window.same("in the table", [int(line[3]) for line in window.table("tasks")], window.tell("[...run.longest]"))
+    """A wait that begins with the run's last tick has no length, and counts; so does one that goes on in another queue then."""
+    for policy, ms, names in [(FAIR, 20, "ab"), (maker.workload("moves_two", MOVES_TWO), 2, "abc")]:
+        tasks = [{"name": name, "group": "g"} for name in names]
+        workload = maker.workload("last", workload_text(1, ms, [{"name": "g"}], tasks))
+        window.open(maker.page("last_wait", policy, workload))
+        stats = maker.stats(policy, workload)
+        window.same("as stats-csv has it", window.tell("[...run.longest]"),
+                    [int(stats["task", name, "longest_wait_ms"]) for name in names])
+        window.figures()
+        window.same("in the table", [int(line[3]) for line in window.table("tasks")], window.tell("[...run.longest]"))
 
 
 def idle_by_quota(window, maker):
@@ -547,4 +592,4 @@ def loading(window, maker):
 
 
 CASES = [selection, cursor, tips, keys, left_text, range_figures, in_sight, sorting, search, links, overview, queue_tracks,
-         frames, patterns, quotas, bound, changes_of_events, last_wait, idle_by_quota, aligned, wakes, nothing_ran, cut_waits, folding, colours, phone, loading]
+         frames, patterns, quotas, bound, area, changes_of_events, last_wait, idle_by_quota, aligned, wakes, nothing_ran, cut_waits, folding, colours, phone, loading]

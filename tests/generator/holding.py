@@ -81,7 +81,7 @@ def ring(random, plan, hand_out=None):
 
 
 def once_more(pids, counts, entries, hand_out):
-    """Takes a task out of the ring; r9 is given back behind it."""
+    """Takes a task out of the ring, then gives r9 back."""
     def step(code):
         out_of_ring(pids, counts, entries, hand_out)(code)
         code.reserved.discard(9)

@@ -131,7 +131,7 @@ def use_element(code):
 
 
 def move_element(code):
-    """Moves r0, an element, and reads behind it."""
+    """Moves r0, an element, and reads through the moved pointer."""
     size, offset = element_access(code)
     register = code.free(0)
     code.add("r%d = r0" % register, f"r{register} += {offset}", f"r{register} = *(u{size * 8} *)(r{register} + 0)")

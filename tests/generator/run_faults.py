@@ -9,7 +9,7 @@ from .holding import hand_out_step, held_task, ring, some_hand_out
 
 
 def when(policy, step, callback):
-    """Does the step at once, at a time, for one task, or after so many times."""
+    """Does the step at once, at a time, for one task, or from some call on."""
     random, plan = policy.random, policy.plan
     choices = ["at once", "time", "count"] + (["task"] if callback in WITH_TASK else [])
     choice = random.choice(choices)

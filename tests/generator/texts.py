@@ -49,7 +49,7 @@ def hexadecimal(random, slots):
 
 
 class Raw(str):
-    """A value that stands in the file as it is."""
+    """A value that the file has as it is."""
 
 
 def written(random, value):

@@ -10,7 +10,7 @@
  *   set OFFSET SIZE NUMBER              a field of the value
  *   name OFFSET TEXT                    the policy's name, in the value
  *   program CALLBACK MEMBER OFFSET SLEEPS HEX
- *   behind SLOT                         that program has a second function, which begins at that slot
+ *   second SLOT                         that program has a second function, which begins at that slot
  *   group PARENT WEIGHT                 a cgroup; PARENT is the place of another, or -1
  *   task NAME GROUP NICE START RUN SLEEP       a process; times in milliseconds
  *   go CPUS MS                          loads, attaches, runs and writes
@@ -85,7 +85,7 @@ union request {
 
 struct program {
 	char callback[24];
-	int member, offset, sleeps, count, file, behind;
+	int member, offset, sleeps, count, file, second;
 	uint64_t *slots;
 };
 struct group {
@@ -209,7 +209,7 @@ static void name_maps(struct program *program)
 	}
 }
 
-/* The last line of the kernel's log of a refused program, without its counts and what 7.x explains behind them. */
+/* The last line of the kernel's log of a refused program, without its counts and what 7.x explains after them. */
 static const char *reason_of(char *log)
 {
 	const char *reason = "";
@@ -264,7 +264,7 @@ static void name_functions(const struct program *program, union request *request
 
 	functions[0] = 0;
 	functions[1] = OF_FIRST;
-	functions[2] = program->behind;
+	functions[2] = program->second;
 	functions[3] = OF_SECOND;
 	request->program.btf = load_timer_types();
 	request->program.function_size = 8;
@@ -284,7 +284,7 @@ static int load_program(struct program *program)
 	request.program.flags = program->sleeps ? FLAG_SLEEPS : 0;
 	request.program.member = program->member;
 	request.program.kernel_type = ops_type;
-	if (program->behind)
+	if (program->second)
 		name_functions(program, &request);
 	program->file = bpf(PROGRAM_LOAD, &request);
 	if (program->file < 0) {
@@ -700,8 +700,8 @@ static void take_line(const char *word, const char *rest)
 		make_map(type, key_size, offset, size);
 	} else if (!strcmp(word, "timers") && sscanf(rest, "%d", &size) == 1) {
 		make_timers(size);
-	} else if (!strcmp(word, "behind") && sscanf(rest, "%d", &offset) == 1) {
-		programs[program_count - 1].behind = offset;
+	} else if (!strcmp(word, "second") && sscanf(rest, "%d", &offset) == 1) {
+		programs[program_count - 1].second = offset;
 	} else if (!strcmp(word, "set") && sscanf(rest, "%d %d %llu", &offset, &size, &number) == 3) {
 		memcpy(value + offset, &number, size);
 	} else if (!strcmp(word, "name") && sscanf(rest, "%d %n", &offset, &length) == 1) {

@@ -1,4 +1,4 @@
-"""Timers of a policy as those of a kernel: the elements of a map of their own, behind the policy's maps.
+"""Timers of a policy as those of a kernel: the elements of a map of their own, after the policy's maps.
 
 The callback `timer` becomes the second function of the program of init, which makes the timers, as a kernel sets a
 function by its place in the same program.
@@ -24,8 +24,8 @@ class Timers:
     def call(self, number, cell, more):
         """A call of a kernel's function for the timer whose number is in r1; -22 where there is none."""
         called = [slots.move(1, 0), *more, slots.call(number), slots.Instruction(0xbf, 0, 0, 32)]
-        behind = sum(one.size() for one in called) + 1
-        lines = [slots.Instruction(0x63, 10, 1, cell), *self.lookup(cell), slots.Instruction(0x15, 0, 0, behind, 0)]
+        past = sum(one.size() for one in called) + 1
+        lines = [slots.Instruction(0x63, 10, 1, cell), *self.lookup(cell), slots.Instruction(0x15, 0, 0, past, 0)]
         return [*lines, *called, slots.Instruction(slots.GOTO, 0, 0, 1), slots.move_number(0, -22)]
 
     def start(self, cell, ns_cell):
@@ -35,15 +35,15 @@ class Timers:
     def cancel(self, cell):
         return self.call(CANCEL, cell, [])
 
-    def made(self, cell, behind):
-        """Makes each timer, for the beginning of init; the function is so many slots from the beginning of the program."""
+    def made(self, cell, second):
+        """Makes each timer, for the beginning of init; the function is `second` slots from the beginning of the program."""
         lines = []
         for number in range(self.count):
             lines += [slots.Instruction(0x62, 10, 0, cell, number), *self.lookup(cell), *exit_if(0x55)]
             lines += [slots.move(6, 0), slots.move(1, 6), slots.wide_number(2, self.map, 5), slots.move_number(3, MONOTONIC)]
             lines += [slots.call(INIT), *exit_if(0x15), slots.move(1, 6)]
             at = sum(one.size() for one in lines)
-            lines += [slots.wide_number(2, behind - at - 1, OF_FUNCTION), slots.call(SET_FUNCTION), *exit_if(0x15)]
+            lines += [slots.wide_number(2, second - at - 1, OF_FUNCTION), slots.call(SET_FUNCTION), *exit_if(0x15)]
         return lines
 
 

@@ -92,7 +92,7 @@ class Callback:
         self.makes_timers = name == "init" and self.timers.count > 0
         wants_timer = self.makes_timers or 1017 in calls or 1018 in calls
         self.timer, self.ns = (self.cell(), self.cell()) if wants_timer else (None, None)
-        self.behind = 0
+        self.second = 0
         if self.used > 512:
             raise NoCounterpart(f"{name}: 512 bytes of stack don't hold what the kernel's form keeps there")
 
@@ -117,7 +117,7 @@ class Callback:
 
     def field(self, offset):
         if offset not in FIELDS:
-            raise NoCounterpart(f"{self.name}: a kernel's task has nothing that stands for byte {offset}")
+            raise NoCounterpart(f"{self.name}: a kernel's task has no counterpart of byte {offset}")
         return self.types.offset("task_struct", FIELDS[offset])
 
     def prologue(self):
@@ -126,7 +126,7 @@ class Callback:
         if self.name == "timer":
             before = [slots.Instruction(0x61, 1, 2, 0)]
         if self.makes_timers:
-            before = self.timers.made(self.timer, self.behind)
+            before = self.timers.made(self.timer, self.second)
         if self.name in ("stopping", "update_idle"):
             before.append(slots.Instruction(0x54, 2, 0, 0, 1))
         if self.previous:
@@ -335,23 +335,23 @@ def program_line(types, callback, code):
     return f"program {callback} {number} {start + offset} {int(member == 'init')} {code.hex()}"
 
 
-def translated(types, callback, code, facts, policy, behind=0):
+def translated(types, callback, code, facts, policy, second=0):
     """A callback for the kernel. Where jumps lead to nothing it stays as it is, as a kernel looks at jumps first."""
     try:
         made = Callback(types, callback, code, facts.get(callback) or guessed(callback, code), policy)
-        made.behind = behind
+        made.second = second
         return made.code()
     except slots.JumpToNothing:
         return code
 
 
 def init_lines(types, name, codes, facts, policy):
-    """The lines for the program of init and the function of timers behind it, by these codes of init and of timer."""
+    """The lines for the program of init and the function of timers after it, by these codes of init and of timer."""
     init, timer = codes.get("init") or ANSWERS_0, codes.get("timer") or ANSWERS_0
-    behind = len(translated(types, "init", init, facts, policy)) // 8
-    first = translated(types, "init", init, facts, policy, behind)
+    second = len(translated(types, "init", init, facts, policy)) // 8
+    first = translated(types, "init", init, facts, policy, second)
     yield program_line(types, name, first + translated(types, "timer", timer, facts, policy))
-    yield f"behind {behind}"
+    yield f"second {second}"
 
 
 def callback_lines(types, callback, codes, facts, policy):
