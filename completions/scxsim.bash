@@ -21,11 +21,11 @@ _scxsim() {
     local current=${COMP_WORDS[COMP_CWORD]}
     COMPREPLY=()
     if [ "$COMP_CWORD" -eq 1 ]; then
-        _scxsim_words "verify verify-json explain explain-one run report check stats stats-csv why why-all why-json story step maps timeline picture picture-part view view-part gantt gantt-part replay replay-csv explore explore-few exec asm dis cases help --help --version"
+        _scxsim_words "verify verify-json explain explain-one run report check stats stats-csv why why-all why-json story step maps timeline timeline-part picture picture-part view view-part gantt gantt-part replay replay-csv explore explore-few exec asm dis cases help --help --version"
         return
     fi
     case ${COMP_WORDS[1]},$COMP_CWORD in
-        help,2) _scxsim_words "verify verify-json explain explain-one run report check stats stats-csv why why-all why-json story step maps timeline picture picture-part view view-part gantt gantt-part replay replay-csv explore explore-few exec asm dis cases" ;;
+        help,2) _scxsim_words "verify verify-json explain explain-one run report check stats stats-csv why why-all why-json story step maps timeline timeline-part picture picture-part view view-part gantt gantt-part replay replay-csv explore explore-few exec asm dis cases" ;;
         verify,2) _scxsim_files toml ;;
         verify-json,2) _scxsim_files toml ;;
         explain,2) _scxsim_files toml ;;
@@ -55,6 +55,8 @@ _scxsim() {
         maps,3) _scxsim_files toml ;;
         timeline,2) _scxsim_files toml ;;
         timeline,3) _scxsim_files toml ;;
+        timeline-part,2) _scxsim_files toml ;;
+        timeline-part,3) _scxsim_files toml ;;
         picture,2) _scxsim_files toml ;;
         picture,3) _scxsim_files toml ;;
         picture-part,2) _scxsim_files toml ;;
