@@ -164,8 +164,8 @@ pub record DiffersAtMost (old new : List Item) (most : ℕ) : Type 0 where
   pub few : length positions ≤ most
   pub differs : DiffersAt positions old new
 
--- where the number of items that there were and one more has that number of binary digits at most, twice
--- as many comparisons and changed positions at most
+-- where the number of items that there were and one more has that number of binary digits at most,
+-- twice as many comparisons and changed positions at most
 pub record IsCheap (old new : List Item) (steps : ℕ) : Type 0 where
   pub comparisons : (digits : ℕ) → length old + 1 < 2 ^ digits → steps ≤ 2 * digits
   pub changes : (digits : ℕ) → length old + 1 < 2 ^ digits → DiffersAtMost old new (2 * digits)
