@@ -1,4 +1,4 @@
-ghost use Rattle.std.specs.Prelude.{◌≡◌, ◌+◌, ◌-◌, ◌*◌, ◌^◌, ◌<◌, ◌≤◌, false, length, is_some, IfSome, IfNone};
+ghost use Rattle.std.specs.Prelude.{◌≡◌, ◌+◌, ◌-◌, ◌*◌, ◌^◌, ◌<◌, ◌≤◌, false, ◌&&◌, length, is_some, is_none, IfSome, IfNone};
 ghost use Rattle.scx_dsq.specs.Queues.{IsQueueAt, front_of};
 ghost use Rattle.scx_sched_world.specs.Ids.{policy_end};
 ghost use Rattle.scx_sched_world.specs.World.{with_note, is_by_linux};
@@ -59,6 +59,30 @@ impl World {
             self.queues.place(queue)
         } else {
             None
+        }
+    }
+
+    /// True if the policy has that queue, and no task waits there that may run on the CPU.
+    #[inline(always)]
+    pub fn has_none_for(&self, queue: u64, cpu: u32) -> bool
+        ensures { result ≡ (is_there self.now queue && is_none (next_for self.now queue cpu)) }
+    {
+        match self.place(queue) {
+            Some(place) => self.has_none_at(place, queue, cpu),
+            None => false,
+        }
+    }
+
+    /// True if no task waits in the queue at that place that may run on the CPU.
+    #[inline(always)]
+    fn has_none_at(&self, place: usize, queue: u64, cpu: u32) -> bool
+        requires { IsQueueAt self.now.queues place queue }
+        ensures { result ≡ is_none (next_for self.now queue cpu) }
+    {
+        if self.binds() {
+            self.next_for(queue, cpu).is_none()
+        } else {
+            self.queues.front_at(place, queue).is_none()
         }
     }
 
@@ -234,22 +258,6 @@ impl World {
     /// Keeps the insert of the task at hand until the callback ends. In dispatch a held task goes at once.
     #[inline(always)]
     pub(crate) fn insert_here(&mut self, task: Option<u16>, insert: Insert, flags: u64) -> u64
-        requires notes { length self.old.notes < 4096 }
-        requires few { self.old.queues.pushes < 2 ^ 63 }
-        ensures answer { result ≡ insert_answer self.old task insert flags }
-        ensures world { self.new ≡ after_insert self.old task insert flags }
-        ensures notes { length self.new.notes ≤ length self.old.notes + 1 }
-        ensures few { self.new.queues.pushes ≤ self.old.queues.pushes + 1 }
-    {
-        if self.is_by_linux() {
-            return self.insert_by_linux(task, insert, flags);
-        }
-        self.insert_now(task, &insert, flags)
-    }
-
-    /// `insert_here` by Linux rules.
-    #[inline(never)]
-    fn insert_by_linux(&mut self, task: Option<u16>, insert: Insert, flags: u64) -> u64
         requires notes { length self.old.notes < 4096 }
         requires few { self.old.queues.pushes < 2 ^ 63 }
         ensures answer { result ≡ insert_answer self.old task insert flags }
