@@ -12,6 +12,7 @@ pub mod Leaving
 pub mod Parked
 pub mod Free
 pub mod Plainly
+pub mod InVain
 pub mod Idling
 pub mod Silent
 pub mod Counting

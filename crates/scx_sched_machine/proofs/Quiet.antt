@@ -1,5 +1,5 @@
 -- A tick and the clock, where nothing happens but that tasks run.
-use Rattle.std.proofs.Common.{arith, ◌≡◌, ℕ, zero, suc, ◌+◌, ◌-◌, ◌*◌, ◌<◌, ◌≤◌, ◌⊎◌, inl, inr, Bool, true, false, not, ◌==◌, ◌&&◌, cond, nat_lt, nat_le, if◌then◌else◌, List, [], length, get_or, set, Option, Some, None, is_some, is_none, refl, sym, ap, ◌∙◌, subst}
+use Rattle.std.proofs.Common.{arith, ◌≡◌, ℕ, zero, suc, ◌+◌, ◌-◌, ◌*◌, ◌<◌, ◌≤◌, ◌⊎◌, inl, inr, Bool, true, false, not, ◌==◌, ◌&&◌, cond, nat_lt, nat_le, if◌then◌else◌, List, [], ◌∷◌, length, get_or, set, Option, Some, None, is_some, is_none, refl, sym, ap, ◌∙◌, subst}
 use Rattle.std.specs.List.{position}
 use Rattle.std.proofs.lemmas.Bool.{cases_lt, ne_eqb}
 use Rattle.std.proofs.lemmas.Bool.Decides.{nat_tests}
@@ -15,18 +15,20 @@ use Rattle.scx_sched_tasks.specs.Waits.{is_late, is_overdue}
 use Rattle.scx_sched_world.specs.declared.call.Call.{Call}
 use Rattle.scx_sched_world.specs.declared.notes.Note.{Note}
 use Rattle.scx_sched_world.specs.declared.timers.Alarm.{Alarm}
-use Rattle.scx_sched_world.specs.Ids.{parked_queue}
+use Rattle.scx_sched_world.specs.Ids.{global, parked_queue}
 use Rattle.scx_sched_world.specs.World as world
 use Rattle.scx_sched_world.specs.World.{WorldState, task_at, running, with_cycling, cycling_by_linux, at_callback}
 use Rattle.scx_sched_world.specs.Pending.{is_pending, pending_below}
 use Rattle.scx_sched_world.specs.Waits.{first_overdue}
-use Rattle.scx_sched_world.specs.Helpers.{alarm_at, due_now}
-use Rattle.scx_sched_world.specs.Tasks.{tick_ns, ran_a_tick, after_tick, used_ms, later, begun_periods, slice_left}
+use Rattle.scx_sched_world.specs.Helpers.{is_there, alarm_at, due_now}
+use Rattle.scx_sched_world.specs.Tasks.{local_len, next_for, tick_ns, ran_a_tick, after_tick, used_ms, later, begun_periods, slice_left}
 use Rattle.scx_sched_world.specs.Quiet.{ticked_for, SlicesLast, StaysCalm}
 use Rattle.scx_sched_world.proofs.Quiet.{calm_less, slices_less}
 use Rattle.scx_sched_machine.specs.declared.events.Event.TheVariants.{Tick, Clock}
 use Rattle.scx_sched_machine.specs.Policy.{program_of}
-use Rattle.scx_sched_machine.specs.Steps.{State, Stepped, with_world, stays, one_after_other, is_by_linux}
+use Rattle.scx_sched_machine.specs.Steps.{State, CallMade, Stepped, with_world, stays, one_after_other, is_ejected, is_by_linux}
+use Rattle.scx_sched_machine.specs.Callbacks.{AreAnswered}
+use Rattle.scx_sched_machine.specs.Vain.{nobody_in, asked_in, in_vain}
 use Rattle.scx_sched_machine.specs.Firing.{due, fires, fire, fire_below, fire_all}
 use Rattle.scx_sched_machine.specs.Parking.{let_all_go}
 use Rattle.scx_sched_machine.specs.Cycle.{stays_idle, cycling, idles, cycle}
@@ -36,7 +38,8 @@ use Rattle.scx_sched_machine.specs.Quiet.{FindsNone, IsAtRest, IsQuiet}
 use Rattle.scx_sched_machine.proofs.Choices.{keeps_if}
 use Rattle.scx_sched_machine.proofs.Counting.{count_left}
 use Rattle.scx_sched_machine.proofs.Free.{free_tasks}
-use Rattle.scx_sched_machine.proofs.Idling.{idle_cycle}
+use Rattle.scx_sched_machine.proofs.Idling.{idle_cycle, idles_answered}
+use Rattle.scx_sched_machine.proofs.Leaving.{then_stays}
 use Rattle.scx_sched_machine.proofs.Looking.{rounds_last}
 use Rattle.scx_sched_machine.proofs.Parked.{go_none}
 
@@ -64,6 +67,18 @@ looks_same : (s : State) (clock : ℕ) (tasks : List Task) (usages : List ℕ) (
 unfolding next_to_look
 looks_same s clock tasks usages call notes = ap (λ o. if is_by_linux s then o else None) (pending_same (length s.world.cpus) s.world clock tasks usages call notes)
 
+-- nobody waits in the same queues
+nobody_same : (qs : List ℕ) (w : WorldState) (c clock : ℕ) (tasks : List Task) (usages : List ℕ) (call : Call) (notes : List Note)
+    → nobody_in (record w { clock = clock; tasks = tasks; tree = record w.tree { usages = usages }; call = call; notes = notes }) c qs ≡ nobody_in w c qs
+nobody_same [] w c clock tasks usages call notes = refl
+nobody_same (q ∷ qs) w c clock tasks usages call notes =
+    ap (λ b. b && (is_there w q && is_none (next_for w q c))) (nobody_same qs w c clock tasks usages call notes)
+
+vain_same : (o : Option (List ℕ)) (w : WorldState) (c clock : ℕ) (tasks : List Task) (usages : List ℕ) (call : Call) (notes : List Note)
+    → in_vain (record w { clock = clock; tasks = tasks; tree = record w.tree { usages = usages }; call = call; notes = notes }) c o ≡ in_vain w c o
+vain_same None w c clock tasks usages call notes = refl
+vain_same (Some qs) w c clock tasks usages call notes = nobody_same qs w c clock tasks usages call notes
+
 rest_same : (s : State) (clock : ℕ) (tasks : List Task) (usages : List ℕ) (call : Call) (notes : List Note) → IsAtRest s
     → IsAtRest (with_world s (record s.world { clock = clock; tasks = tasks; tree = record s.world.tree { usages = usages }; call = call; notes = notes }))
 unfolding stays_idle
@@ -73,7 +88,10 @@ rest_same s clock tasks usages call notes h = record {
   parked = h.parked;
   unheard = h.unheard;
   unasked = looks_same s clock tasks usages call notes ∙ h.unasked;
-  idle = h.idle;
+  idle = λ c there plain none.
+      ap (λ b. not (is_ejected s) && (not (has_quota s.world.tree.groups) && ((local_len s.world c == 0) && (is_none (next_for s.world global c) && b))))
+      (vain_same (asked_in (program_of s.policy callback.Dispatch)) s.world c clock tasks usages call notes)
+      ∙ h.idle c there plain none;
 }
 
 -- a machine at rest stays so as time passes
@@ -83,33 +101,51 @@ rest_on s u same h = subst (λ (x : WorldState). IsAtRest (with_world s x)) (sym
 -- ---- a tick
 
 -- where nobody is to look for work nobody does
-pub unlooked : (s : State) → next_to_look s ≡ None → with_rounds (stays s) ≡ stays s
+pub unlooked : (r : Stepped) → next_to_look r.state ≡ None → with_rounds r ≡ r
 unfolding with_rounds
-unlooked s e = go (is_by_linux s)
+unlooked r e = go (is_by_linux r.state)
   where
-    go : (b : Bool) → (if b then one_after_other (stays s) (rounds most_rounds s) else stays s) ≡ stays s
-    go true = ap (λ r. one_after_other (stays s) r) (rounds_last most_rounds s e)
+    go : (b : Bool) → (if b then one_after_other r (rounds most_rounds r.state) else r) ≡ r
+    go true = ap (λ x. one_after_other r x) (rounds_last most_rounds r.state e) ∙ then_stays r
     go false = refl
 
 plainly : (w : WorldState) (o : Option ℕ) → world.is_by_linux w ≡ false → with_cycling w o ≡ record w { cycling = o }
 plainly w o e = ap (λ b. if b then cycling_by_linux w o else record w { cycling = o }) e
 
+-- a step that changes the state, notes nothing and makes these calls, which are answered
+pub record Asks (r : Stepped) (s : State) : Type 0 where
+  pub calls : List CallMade
+  pub answered : AreAnswered calls
+  pub step : r ≡ record { state = s; notes = []; calls = calls }
+
+-- one that makes none
+pub asks_none : (r : Stepped) (s : State) → r ≡ stays s → Asks r s
+asks_none r s e = record { calls = []; answered = tt; step = e }
+
 -- a cycle that comes to nothing leaves dispatch as the last callback
-idles_plainly : (s : State) (c : ℕ) → is_by_linux s ≡ false → s.world.cycling ≡ None → idles s c ≡ stays (with_world s (at_callback s.world callback.Dispatch 0 c))
+idles_plainly : (s : State) (c : ℕ) → is_by_linux s ≡ false → s.world.cycling ≡ None → (idles s c).state ≡ with_world s (at_callback s.world callback.Dispatch 0 c)
 unfolding idles
 idles_plainly s c plain still =
-    ap (λ (v : WorldState). stays (with_world s (with_cycling (at_callback v callback.Dispatch 0 c) None))) (plainly s.world (Some c) plain)
-    ∙ ap (λ (v : WorldState). stays (with_world s v)) (plainly (at_callback (record s.world { cycling = Some c }) callback.Dispatch 0 c) None plain)
-    ∙ ap (λ o. stays (with_world s (record (at_callback s.world callback.Dispatch 0 c) { cycling = o }))) (sym still)
+    ap (λ (v : WorldState). with_world s (with_cycling (at_callback v callback.Dispatch 0 c) None)) (plainly s.world (Some c) plain)
+    ∙ ap (λ (v : WorldState). with_world s v) (plainly (at_callback (record s.world { cycling = Some c }) callback.Dispatch 0 c) None plain)
+    ∙ ap (λ o. with_world s (record (at_callback s.world callback.Dispatch 0 c) { cycling = o })) (sym still)
+
+idles_asks : (s : State) (c : ℕ) → stays_idle s c ≡ true → is_by_linux s ≡ false → s.world.cycling ≡ None → Asks (cycle s c None false) (with_world s (at_callback s.world callback.Dispatch 0 c))
+unfolding idles
+idles_asks s c idle plain still = record {
+  calls = (idles s c).calls;
+  answered = idles_answered s c idle;
+  step = idle_cycle s c idle ∙ ap (λ (x : State). record { state = x; notes = []; calls = (idles s c).calls }) (idles_plainly s c plain still);
+}
 
 -- one that runs no task stays idle
-idle_ticks : (s : State) (c : ℕ) → IsAtRest s → s.world.cycling ≡ None → c < length s.world.cpus → running s.world c ≡ None → tick_idle s c ≡ stays (with_world s (ticked_for 1 s.world c None))
+idle_ticks : (s : State) (c : ℕ) → IsAtRest s → s.world.cycling ≡ None → c < length s.world.cpus → running s.world c ≡ None → Asks (tick_idle s c) (with_world s (ticked_for 1 s.world c None))
 unfolding tick_idle
 idle_ticks s c h still there none = go (is_by_linux s) refl
   where
-    go : (b : Bool) → is_by_linux s ≡ b → (if b then stays s else cycle s c None false) ≡ stays (with_world s (if b then s.world else at_callback s.world callback.Dispatch 0 c))
-    go true e = refl
-    go false e = idle_cycle s c (h.idle c there e none) ∙ idles_plainly s c e still
+    go : (b : Bool) → is_by_linux s ≡ b → Asks (if b then stays s else cycle s c None false) (with_world s (if b then s.world else at_callback s.world callback.Dispatch 0 c))
+    go true e = asks_none (stays s) s refl
+    go false e = idles_asks s c (h.idle c there e none) e still
 
 counted_down_left : (n : ℕ) → tick_ns < n → ((if n == 0xffff_ffff_ffff_ffff then n else n - tick_ns) == 0) ≡ false
 counted_down_left n lt = go (n == 0xffff_ffff_ffff_ffff)
@@ -169,18 +205,23 @@ ticked_passes n w c (Some t) = keeps_if (Passes w) (nat_lt t (length _)) _ _ ref
 
 -- a tick of a machine at rest
 pub quiet_tick : (s : State) (c : ℕ) → IsAtRest s → s.world.cycling ≡ None → c < length s.world.cpus → ((t : ℕ) → running s.world c ≡ Some t → tick_ns < (task_at s.world t).slice)
-    → event_step s (Tick c) ≡ stays (with_world s (ticked_for 1 s.world c (running s.world c)))
+    → Asks (event_step s (Tick c)) (with_world s (ticked_for 1 s.world c (running s.world c)))
 unfolding tick
-quiet_tick s c h still there lasts =
-    ap (λ r. with_rounds r) (go (running s.world c) refl)
-    ∙ unlooked (with_world s u) (rest_on s u (ticked_passes 1 s.world c (running s.world c)) h).unasked
+quiet_tick s c h still there lasts = record {
+  calls = asks.calls;
+  answered = asks.answered;
+  step = ap (λ r. with_rounds r) asks.step ∙ unlooked (record { state = with_world s u; notes = []; calls = asks.calls }) (rest_on s u (ticked_passes 1 s.world c (running s.world c)) h).unasked;
+}
   where
     u : WorldState
     u = ticked_for 1 s.world c (running s.world c)
 
-    go : (o : Option ℕ) → running s.world c ≡ o → tick_of o s c ≡ stays (with_world s (ticked_for 1 s.world c o))
+    go : (o : Option ℕ) → running s.world c ≡ o → Asks (tick_of o s c) (with_world s (ticked_for 1 s.world c o))
     go None e = idle_ticks s c h still there e
-    go (Some t) e = busy_ticks s c t h (lasts t e)
+    go (Some t) e = asks_none (count_down s c t) (with_world s (ticked_for 1 s.world c (Some t))) (busy_ticks s c t h (lasts t e))
+
+    asks : Asks (tick_of (running s.world c) s c) (with_world s u)
+    asks = go (running s.world c) refl
 
 -- ---- the clock
 
@@ -236,7 +277,7 @@ quiet_clock s h waits timers =
     ap (λ r. with_rounds (one_after_other r (timers_and_watchdog r.state))) (go_none (len_of s.world.queues parked_queue) v (front_of s.world.queues parked_queue) h.parked)
     ∙ ap (λ r. with_rounds (one_after_other (stays v) (one_after_other r (watch r.state)))) (none_fires (length s.world.timers) v timers)
     ∙ ap (λ r. with_rounds (one_after_other (stays v) (one_after_other (stays v) r))) (unwatched v waits)
-    ∙ unlooked v (rest_on s v.world refl h).unasked
+    ∙ unlooked (stays v) (rest_on s v.world refl h).unasked
   where
     v : State
     v = with_world s (begun_periods (later s.world))

@@ -12,9 +12,10 @@ use Rattle.scx_sched_world.specs.Pending as world
 use Rattle.scx_sched_world.specs.Tasks.{local_len, after_stop, started_at, after_run, after_switch, after_keep, to_front, next_for}
 use Rattle.scx_sched_world.specs.Ejecting.{after_catch_up, after_charge}
 use Rattle.scx_sched_machine.specs.Steps.{State, Stepped, with_world, stays, after, one_after_other, is_ejected, is_by_linux, kicked}
-use Rattle.scx_sched_machine.specs.Callbacks.{call_back, call_by_linux, noted_by, one_task, task_and_number, two_numbers, cpu_and_task}
+use Rattle.scx_sched_machine.specs.Callbacks.{call_back, call_by_linux, noted_by, calls_of, one_task, task_and_number, two_numbers, cpu_and_task}
 use Rattle.scx_sched_machine.specs.Custody.{tells_left}
 use Rattle.scx_sched_machine.specs.Policy.{program_of}
+use Rattle.scx_sched_machine.specs.Vain.{asked_in, in_vain}
 use Rattle.scx_sched_machine.specs.Put.{enters, put}
 use Rattle.scx_sched_machine.specs.Filling.{fill}
 use Rattle.scx_sched_machine.specs.Parking.{park_next, supply}
@@ -270,19 +271,26 @@ abbrev pub cycling : State → Option ℕ → State
 cycling s o = with_world s (with_cycling s.world o)
 
 -- whether nobody waits for the processor or for any, no task may be throttled, and there is no
--- dispatch to ask
+-- dispatch to ask, or it asks in vain
 unfoldable pub stays_idle : State → ℕ → Bool
 stays_idle s c =
-    is_none (program_of s.policy callback.Dispatch)
-    && (not (is_ejected s)
+    not (is_ejected s)
     && (not (has_quota s.world.tree.groups)
-    && ((local_len s.world c == 0) && is_none (next_for s.world global c))))
+    && ((local_len s.world c == 0)
+    && (is_none (next_for s.world global c)
+    && in_vain s.world c (asked_in (program_of s.policy callback.Dispatch)))))
 
--- a cycle that comes to nothing: dispatch would be asked, and nobody runs
+-- a cycle that comes to nothing: dispatch is asked, if there is one, and nobody runs
 unfoldable pub idles : State → ℕ → Stepped
 idles s c =
     let v = cycling s (Some c) in
-    stays (cycling (with_world v (at_callback v.world callback.Dispatch 0 c)) None)
+    let w = at_callback v.world callback.Dispatch 0 c in
+    record {
+      state = cycling (with_world v w) None;
+      notes = [];
+      calls = calls_of (program_of s.policy callback.Dispatch) callback.Dispatch
+          (cpu_and_task c (told_of v None)) s.maps w;
+    }
 
 -- the cycle ends
 abbrev pub ends : Stepped → Stepped

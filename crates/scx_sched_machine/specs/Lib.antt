@@ -4,6 +4,7 @@ pub mod Steps
 pub mod Budgets
 pub mod Ejecting
 pub mod Callbacks
+pub mod Vain
 pub mod Hearing
 pub mod Does
 pub mod Put

@@ -27,7 +27,7 @@ pub record IsAtRest (s : State) : Type 0 where
   pub idle : (c : ℕ) → c < length s.world.cpus → FindsNone s c
 
 -- in that many milliseconds no task wakes, sleeps, is replaced, parked or let go, no callback runs
--- and nothing is noted, if no event comes but ticks and the clock
+-- but a dispatch that asks in vain, and nothing is noted, if no event comes but ticks and the clock
 pub record IsQuiet (n : ℕ) (s : State) : Type 0 where
   pub rest : IsAtRest s
   pub slices : SlicesLast n s.world

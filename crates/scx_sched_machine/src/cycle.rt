@@ -1,14 +1,19 @@
 ghost use Rattle.std.specs.Prelude.{◌≡◌, ◌+◌, ◌*◌, true, false, None};
+ghost use Rattle.scx_isa_semantics.specs.declared.callbacks.Callback.TheVariants.{Dispatch};
 ghost use Rattle.scx_sched_world.specs.Ids.{global};
 ghost use Rattle.scx_sched_machine.specs.Budgets.{HasRoom, ask_pushes, builtin_ask_pushes, builtin_cycle_pushes, builtin_dispatch_pushes, callback_pushes, cycle_pushes, dispatch_pushes, fill_pushes, leave_pushes, look_pushes, pick_pushes, supply_pushes, swap_pushes};
+ghost use Rattle.scx_sched_machine.specs.Policy.{program_of};
+ghost use Rattle.scx_sched_machine.specs.Vain.{asked_in, in_vain};
 ghost use Rattle.scx_sched_machine.specs.Does.{Goes};
 ghost use Rattle.scx_sched_machine.specs.Steps.{is_by_linux};
 ghost use Rattle.scx_sched_machine.specs.Filling.{fill};
 ghost use Rattle.scx_sched_machine.specs.Cycle.{supply_unless_kept, after_dispatch, tries, swap, swap_or_rest, builtin_dispatch, builtin_fill, builtin_ask, builtin_cycle, start_or_cycle, start_picked_or_cycle, makes_way, pick, pick_or_rest, keep_or_pick, conclude, give_up, ask, seek, look, stays_idle, idles, cycle};
+ghost use Rattle.scx_sched_machine.specs.Hearing.{Untold};
 
 use crate::callbacks::cpu_and_task;
 use crate::machine::Machine;
 use crate::sink::Hearer;
+use crate::vain::nobody_in;
 use scx_isa::Callback;
 use scx_sched_world::{BUILTIN, LOCAL_ON, What};
 
@@ -295,8 +300,20 @@ impl Machine {
         self.start_or_cycle_plainly(cpu, ran, hearer);
     }
 
-    /// The front of the local queue runs in the place of the task before.
+    /// `pick_plainly`, compiled apart.
     #[inline(never)]
+    #[tactic(auto, using(crate::proofs::Taking::takings))]
+    fn pick_apart<H: Hearer>(&mut self, cpu: u32, before: Option<u16>, ran: bool, hearer: &mut H)
+        requires plain { is_by_linux self.old ≡ false }
+        requires room { HasRoom pick_pushes self.old }
+        ensures { Goes H.noted H.takes H.told H.hears pick_pushes (pick self.old cpu before ran)
+            self.old hearer.old self.new hearer.new }
+    {
+        self.pick_plainly(cpu, before, ran, hearer);
+    }
+
+    /// The front of the local queue runs in the place of the task before.
+    #[inline(always)]
     #[tactic(auto, using(crate::proofs::Taking::takings))]
     fn pick<H: Hearer>(&mut self, cpu: u32, before: Option<u16>, ran: bool, hearer: &mut H)
         requires { HasRoom pick_pushes self.old }
@@ -306,7 +323,7 @@ impl Machine {
         if self.is_by_linux() {
             self.pick_by_linux(cpu, before, ran, hearer);
         } else {
-            self.pick_plainly(cpu, before, ran, hearer);
+            self.pick_apart(cpu, before, ran, hearer);
         }
     }
 
@@ -320,6 +337,28 @@ impl Machine {
     {
         if self.has_local(cpu) {
             self.pick(cpu, before, ran, hearer);
+        } else {
+            self.rest(cpu, before, ran, hearer);
+        }
+    }
+
+    /// `pick_or_rest` by plain rules.
+    #[inline(always)]
+    #[tactic(auto, unfolding(crate::specs::Cycle::pick_or_rest), using(crate::proofs::Taking::takings))]
+    fn pick_or_rest_plainly<H: Hearer>(
+        &mut self,
+        cpu: u32,
+        before: Option<u16>,
+        ran: bool,
+        hearer: &mut H,
+    )
+        requires plain { is_by_linux self.old ≡ false }
+        requires room { HasRoom pick_pushes self.old }
+        ensures { Goes H.noted H.takes H.told H.hears pick_pushes
+            (pick_or_rest self.old cpu before ran) self.old hearer.old self.new hearer.new }
+    {
+        if self.has_local(cpu) {
+            self.pick_plainly(cpu, before, ran, hearer);
         } else {
             self.rest(cpu, before, ran, hearer);
         }
@@ -384,7 +423,7 @@ impl Machine {
         if self.is_ejected() {
             self.builtin_cycle(cpu, before, ran, hearer);
         } else {
-            self.pick_or_rest(cpu, before, ran, hearer);
+            self.pick_or_rest_plainly(cpu, before, ran, hearer);
         }
     }
 
@@ -457,29 +496,65 @@ impl Machine {
         }
     }
 
-    /// True if no task waits for this CPU or for any, no task may be throttled, and there is no dispatch to call.
+    /// True if dispatch asks in vain: no task that may run on the CPU waits in its queues, and it does nothing else.
+    #[inline(always)]
+    fn asks_in_vain(&self, cpu: u32) -> bool
+        ensures { result
+            ≡ in_vain self.now.world cpu (asked_in (program_of self.now.policy Dispatch)) }
+    {
+        match self.policy.asked() {
+            Some(asked) => nobody_in(&self.world, cpu, asked),
+            None => false,
+        }
+    }
+
+    /// True if no task waits for this CPU or for any, no task may be throttled, and dispatch, if it is there, asks in
+    /// vain.
     #[inline(always)]
     #[tactic(auto, unfolding(crate::specs::Cycle::stays_idle))]
     pub(crate) fn stays_idle(&self, cpu: u32) -> bool
         ensures { result ≡ stays_idle self.now cpu }
     {
-        self.policy.program(Callback::Dispatch).is_none()
-            && !self.is_ejected()
+        !self.is_ejected()
             && !self.world.is_limited()
             && self.world.is_local_empty(cpu)
             && !self.world.has_global_for(cpu)
+            && self.asks_in_vain(cpu)
     }
 
-    /// A cycle that comes to nothing.
+    /// True if a call of dispatch need not be told: there is none, or the hearer doesn't heed calls.
+    #[inline(always)]
+    #[tactic(auto, using(crate::proofs::Idling::untold_calls, crate::proofs::Idling::untold_none))]
+    fn goes_untold<H: Hearer>(&self, hearer: &H) -> bool
+        ensures { result ≡ true → Untold H.hears (H.told hearer.now) self.now }
+    {
+        if !hearer.heeds_calls() {
+            return true;
+        }
+        !self.policy.has_program(Callback::Dispatch)
+    }
+
+    /// Leaves what a cycle does that comes to nothing.
     #[inline(always)]
     #[tactic(auto, unfolding(crate::specs::Cycle::idles))]
-    fn stay_idle<H: Hearer>(&mut self, cpu: u32, hearer: &mut H)
-        ensures { Goes H.noted H.takes H.told H.hears 0 (idles self.old cpu)
-            self.old hearer.old self.new hearer.new }
+    fn idle(&mut self, cpu: u32)
+        ensures state { self.new ≡ (idles self.old cpu).state }
+        ensures few { self.new.world.queues.pushes ≡ self.old.world.queues.pushes }
     {
         self.world.set_cycling(Some(cpu));
         self.world.begin(Callback::Dispatch, 0, cpu);
         self.world.set_cycling(None);
+    }
+
+    /// A cycle that comes to nothing.
+    #[inline(always)]
+    fn stay_idle<H: Hearer>(&mut self, cpu: u32, hearer: &mut H)
+        requires idle { stays_idle self.old cpu ≡ true }
+        requires untold { Untold H.hears (H.told hearer.old) self.old }
+        ensures { Goes H.noted H.takes H.told H.hears 0 (idles self.old cpu)
+            self.old hearer.old self.new hearer.new }
+    {
+        self.idle(cpu);
     }
 
     /// The cycle of a CPU on which no task runs.
@@ -490,7 +565,7 @@ impl Machine {
         ensures { Goes H.noted H.takes H.told H.hears cycle_pushes (cycle self.old cpu None false)
             self.old hearer.old self.new hearer.new }
     {
-        if self.stays_idle(cpu) {
+        if self.goes_untold(hearer) && self.stays_idle(cpu) {
             self.stay_idle(cpu, hearer);
         } else {
             self.cycle(cpu, None, false, hearer);

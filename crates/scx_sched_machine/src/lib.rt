@@ -23,6 +23,7 @@ mod skipping;
 mod sleeping;
 mod start;
 mod switching;
+mod vain;
 mod waking;
 
 pub use events::{Event, Refused};

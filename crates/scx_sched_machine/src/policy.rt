@@ -1,8 +1,11 @@
 ghost use Rattle.std.specs.Prelude.{◌≡◌, ◌↔◌, option_map, is_some, IsTrue, IfOk, OnOk, IfErr, None, IfSome};
 ghost use Rattle.scx_sched_machine.specs.Policy.{IsTimeout, IsAs, HasMaps, AreAs, HaveMaps, AreBy, IsFault, program_of, policy_of, policy_by, with_ticks, with_idle_kept, with_timers, with_seed, tracks_idle};
 ghost use Rattle.scx_isa_semantics.specs.declared.rules.Rules.TheVariants.{Plain};
+ghost use Rattle.scx_isa_semantics.specs.declared.callbacks.Callback.TheVariants.{Dispatch};
 ghost use Rattle.scx_sched_world.specs.World.{are_linux};
+ghost use Rattle.scx_sched_machine.specs.Vain.{queues_in, asked_in};
 
+use crate::vain::{Asked, asked_by};
 use scx_isa::{Callback, PerCallback, Rules};
 use scx_maps::MapDefs;
 use scx_verify::Verified;
@@ -42,10 +45,14 @@ pub struct Policy {
     timers: u8,
     seed: u64,
     callbacks: Callbacks,
+    /// The queues that dispatch asks in vain, if it does nothing else.
+    asked: Option<Asked>,
 }
 
 impl Model for Policy {
+    ghost use Rattle.std.specs.Prelude.{◌≡◌, option_map};
     ghost use Rattle.scx_sched_machine.specs.Policy.{PolicyState, IsTimeout, AreAs, HaveMaps, AreBy};
+    ghost use Rattle.scx_sched_machine.specs.Vain.{queues_in, asked_in};
 
     ghost Value = { PolicyState };
 
@@ -61,7 +68,8 @@ impl Model for Policy {
     } };
 
     ghost invariant = { λ p. IsTimeout p.timeout_ms × AreAs p.callbacks × HaveMaps p.defs p.callbacks
-        × AreBy p.rules p.callbacks };
+        × AreBy p.rules p.callbacks
+        × (option_map queues_in p.asked ≡ asked_in p.callbacks.dispatch) };
 }
 
 impl Policy {
@@ -92,18 +100,12 @@ impl Policy {
         ensures rules { OnOk result (AreBy rules callbacks) }
         ensures refused { IfErr result (IsFault rules defs timeout_ms callbacks) }
     {
-        match fault_of(rules, &defs, timeout_ms, &callbacks) {
-            None => Ok(Policy {
-                defs,
-                timeout_ms,
-                rules,
-                tick_ms: 0,
-                keeps_idle: false,
-                timers: 0,
-                seed: 0,
-                callbacks,
-            }),
-            Some(fault) => {
+        match check_parts(rules, &defs, timeout_ms, &callbacks) {
+            Ok(()) => {
+                let asked = asked_in(&callbacks.dispatch);
+                Ok(made(rules, defs, timeout_ms, callbacks, asked))
+            }
+            Err(fault) => {
                 drop(callbacks);
                 Err(fault)
             }
@@ -157,6 +159,7 @@ impl Policy {
             timers: self.timers,
             seed: self.seed,
             callbacks,
+            asked: self.asked,
         })
     }
 
@@ -238,12 +241,58 @@ impl Policy {
         self.callbacks.get(callback)
     }
 
+    /// The queues that dispatch asks in vain, if it does nothing else.
+    #[inline(always)]
+    pub(crate) fn asked(&self) -> Option<Asked>
+        ensures { option_map queues_in result ≡ asked_in (program_of self.now Dispatch) }
+    {
+        self.asked
+    }
+
     /// True if the callback has a program.
     #[inline(always)]
     pub(crate) fn has_program(&self, callback: Callback) -> bool
         ensures { result ≡ is_some (program_of self.now callback) }
     {
         self.program(callback).is_some()
+    }
+}
+
+/// The policy of these parts.
+fn made(
+    rules: Rules,
+    defs: MapDefs,
+    timeout_ms: u32,
+    callbacks: Callbacks,
+    asked: Option<Asked>,
+) -> Policy
+    requires timeout { IsTimeout timeout_ms }
+    requires programs { AreAs callbacks }
+    requires maps { HaveMaps defs callbacks }
+    requires rules { AreBy rules callbacks }
+    requires asked { option_map queues_in asked ≡ asked_in callbacks.dispatch }
+    ensures { result ≡ policy_by rules defs timeout_ms callbacks }
+{
+    Policy {
+        defs,
+        timeout_ms,
+        rules,
+        tick_ms: 0,
+        keeps_idle: false,
+        timers: 0,
+        seed: 0,
+        callbacks,
+        asked,
+    }
+}
+
+/// The queues that dispatch asks in vain, if it does nothing else.
+fn asked_in(dispatch: &Option<Verified>) -> Option<Asked>
+    ensures { option_map queues_in result ≡ asked_in dispatch.now }
+{
+    match dispatch {
+        Some(program) => asked_by(program.program()),
+        None => Some(Asked::Nothing),
     }
 }
 
@@ -337,31 +386,31 @@ fn duplicate_of(program: &Option<Verified>, alloc: Global) -> Result<Option<Veri
 }
 
 /// The first thing wrong with a policy of these programs.
-fn fault_of(
+fn check_parts(
     rules: Rules,
     defs: &MapDefs,
     timeout_ms: u32,
     callbacks: &Callbacks,
-) -> Option<BadPolicy>
-    ensures fault { IfSome result (IsFault rules defs.now timeout_ms callbacks.now) }
-    ensures timeout { result ≡ None → IsTimeout timeout_ms }
-    ensures programs { result ≡ None → AreAs callbacks.now }
-    ensures maps { result ≡ None → HaveMaps defs.now callbacks.now }
-    ensures rules { result ≡ None → AreBy rules callbacks.now }
+) -> Result<(), BadPolicy>
+    ensures refused { IfErr result (IsFault rules defs.now timeout_ms callbacks.now) }
+    ensures timeout { OnOk result (IsTimeout timeout_ms) }
+    ensures programs { OnOk result (AreAs callbacks.now) }
+    ensures maps { OnOk result (HaveMaps defs.now callbacks.now) }
+    ensures rules { OnOk result (AreBy rules callbacks.now) }
 {
     if timeout_ms < 1 || timeout_ms > 30_000 {
-        return Some(BadPolicy::BadTimeout);
+        return Err(BadPolicy::BadTimeout);
     }
     if !are_as(callbacks) {
-        return Some(BadPolicy::OtherCallback);
+        return Err(BadPolicy::OtherCallback);
     }
     if !have_maps(callbacks, defs) {
-        return Some(BadPolicy::OtherMaps);
+        return Err(BadPolicy::OtherMaps);
     }
     if !are_by(callbacks, rules) {
-        return Some(BadPolicy::OtherRules);
+        return Err(BadPolicy::OtherRules);
     }
-    None
+    Ok(())
 }
 
 /// True if each program was verified as the callback whose program it is.

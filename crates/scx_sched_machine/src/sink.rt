@@ -65,6 +65,13 @@ pub trait Sink {
         run_program(core, program, arguments, maps, world)
     }
 
+    /// True if it wants to run each program of the policy itself. Else it may not be asked to run one of which nothing
+    /// comes.
+    #[inline(always)]
+    fn heeds_runs(&self) -> bool {
+        true
+    }
+
     /// A failed sink is left as it was.
     ghost failed_stays: { (s t : Self) (n : Note) → has_failed s ≡ true → takes s n t → t ≡ s };
 }
@@ -129,6 +136,14 @@ pub trait Hearer {
             }) }
         ensures shapes { HasShapes program.now.context.defs maps.new }
         ensures few { world.new.queues.pushes ≤ world.old.queues.pushes + program_pushes };
+
+    /// True if being told of a call may change it. Else it may not be told of one of which nothing comes.
+    #[inline(always)]
+    fn heeds_calls(&self) -> bool
+        ensures { result ≡ false → (c : CallMade) → hears (told self.now) c (told self.now) }
+    {
+        true
+    }
 }
 
 /// A sink may run the programs itself, and stays as it is.
@@ -161,6 +176,11 @@ impl<S: Sink> Hearer for S {
     ) -> u64 {
         Sink::run(self, core, program, arguments, maps, world)
     }
+
+    #[inline(always)]
+    fn heeds_calls(&self) -> bool {
+        Sink::heeds_runs(self)
+    }
 }
 
 /// A sink that drops the notes.
@@ -177,6 +197,11 @@ impl Sink for Unseen {
     fn take(&mut self, _note: Note) {}
 
     fn failed(&self) -> bool {
+        false
+    }
+
+    #[inline(always)]
+    fn heeds_runs(&self) -> bool {
         false
     }
 }

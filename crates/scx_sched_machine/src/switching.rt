@@ -152,7 +152,7 @@ impl Machine {
     }
 
     /// The task that was picked runs, from wherever it waits in the local queue.
-    #[inline(never)]
+    #[inline(always)]
     #[tactic(auto, unfolding(crate::specs::Cycle::start_picked), using(crate::proofs::Taking::takings))]
     pub(crate) fn start_picked<H: Hearer>(&mut self, cpu: u32, task: u16, hearer: &mut H)
         requires { HasRoom callback_pushes self.old }

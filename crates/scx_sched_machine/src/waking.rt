@@ -132,6 +132,7 @@ impl Machine {
     }
 
     /// A task that woke comes to wait for the target, which is its CPU from then on, by Linux rules.
+    #[inline(always)]
     #[tactic(auto, using(crate::proofs::Taking::takings, crate::proofs::Plainly::settles_by_linux))]
     fn settle_by_linux<H: Hearer>(&mut self, task: u16, cpu: u32, hearer: &mut H)
         requires linux { is_by_linux self.old ≡ true }
@@ -145,6 +146,7 @@ impl Machine {
     }
 
     /// A task that woke comes to wait for the target.
+    #[inline(always)]
     #[tactic(auto, using(crate::proofs::Taking::takings))]
     fn settle<H: Hearer>(&mut self, task: u16, cpu: u32, hearer: &mut H)
         requires { HasRoom runnable_pushes self.old }
@@ -214,7 +216,7 @@ impl Machine {
     }
 
     /// Asks for the target of a task that wakes by Linux rules, unless it may run on one CPU alone.
-    #[inline(never)]
+    #[inline(always)]
     #[tactic(auto, unfolding(crate::specs::Events::select, crate::specs::Events::from_waker), using(crate::proofs::Taking::takings))]
     fn select_by_linux<H: Hearer>(&mut self, task: u16, hearer: &mut H)
         requires linux { is_by_linux self.old ≡ true }
@@ -233,6 +235,7 @@ impl Machine {
     }
 
     /// A task that woke comes to wait for that CPU, the only one on which it may run, and nobody is asked.
+    #[inline(never)]
     #[tactic(auto, unfolding(crate::specs::Events::settle_at_home), using(crate::proofs::Taking::takings))]
     fn settle_at_home<H: Hearer>(&mut self, task: u16, cpu: u32, hearer: &mut H)
         requires { HasRoom runnable_pushes self.old }

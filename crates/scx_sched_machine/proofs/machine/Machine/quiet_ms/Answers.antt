@@ -1,4 +1,4 @@
-use Rattle.std.proofs.Common.{rules, ◌≡◌, ◌+◌, ◌<◌, ◌≤◌, sym, subst, arith}
+use Rattle.std.proofs.Common.{rules, ◌+◌, ◌≤◌, sym, subst, arith}
 use Rattle.std.proofs.lemmas.Grind.{common_steps}
 use Rattle.scx_sched_world.specs.Quiet.{SlicesLast, StaysCalm}
 use Rattle.scx_sched_machine.specs.Steps.{State}
