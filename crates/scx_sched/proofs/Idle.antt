@@ -71,7 +71,7 @@ out_stays s r (Some t) f out = go s.world.ejected refl out
     go (Some y) e x = ap (λ k. is_some k) (f y e)
 
 -- a fill that brings nobody: no task that may run on the processor waits in that queue
-abbrev IsVain : ℕ → ℕ → WorldState → WorldState → Type 0
+abbrev pub IsVain : ℕ → ℕ → WorldState → WorldState → Type 0
 IsVain q c w v = (next_for w q c ≡ None) × (local_len w c ≡ 0) × (v ≡ w)
 
 -- no task that may run on the processor waits for all processors while the local queue is empty
@@ -91,12 +91,12 @@ out_leaves s None out = tt
 out_leaves s (Some t) out = out_is_plain s out
 
 -- by plain rules anybody does
-plain_leaves : (s : State) (p : Option ℕ) → is_by_linux s ≡ false → LeavesPlainly p s
+pub plain_leaves : (s : State) (p : Option ℕ) → is_by_linux s ≡ false → LeavesPlainly p s
 plain_leaves s None plain = tt
 plain_leaves s (Some t) plain = plain
 
 -- by plain rules the front runs that there is once the task before has left
-pick_plain : (s : State) (c : ℕ) (p : Option ℕ) (ran : Bool) → is_by_linux s ≡ false → (pick s c p ran).state ≡ (start_or_cycle (leave s c p).state c ran).state
+pub pick_plain : (s : State) (c : ℕ) (p : Option ℕ) (ran : Bool) → is_by_linux s ≡ false → (pick s c p ran).state ≡ (start_or_cycle (leave s c p).state c ran).state
 unfolding pick picked
 pick_plain s c p ran plain = ap (λ b. (after_pick (if b then front_of s.world.queues (local_on c) else None)).state) plain ∙ ap (λ (v : State). (start_or_cycle v c ran).state) (way_plain s c p ran plain)
   where
@@ -104,12 +104,12 @@ pick_plain s c p ran plain = ap (λ b. (after_pick (if b then front_of s.world.q
     after_pick o = let l = makes_way (refilled s o) c p ran in one_after_other l (start_picked_or_cycle o l.state c ran)
 
 -- and a processor gives up for good
-give_up_plain : (s : State) (c : ℕ) (p : Option ℕ) → is_by_linux s ≡ false → give_up s c p ≡ s
+pub give_up_plain : (s : State) (c : ℕ) (p : Option ℕ) → is_by_linux s ≡ false → give_up s c p ≡ s
 unfolding give_up
 give_up_plain s c p plain = ap (λ b. if b && asks_again s c p then kicked s c else s) plain
 
 -- by plain rules a cycle ends once it is over
-concluded_plain : (s : State) (c : ℕ) (ran : Bool) → is_by_linux s ≡ false → concluded s c ran ≡ stays (cycling s None)
+pub concluded_plain : (s : State) (c : ℕ) (ran : Bool) → is_by_linux s ≡ false → concluded s c ran ≡ stays (cycling s None)
 unfolding concluded falls_idle hears_idle
 concluded_plain s c ran plain = go ran
   where
@@ -120,7 +120,7 @@ concluded_plain s c ran plain = go ran
 module _ (n e : ℕ) (c : ℕ) where
   -- ---- who comes to run
 
-  start_busy : (m : ℕ) (on : List (Option ℕ)) (s : State) → c < length on → get_or on c None ≡ None → IsClear c s.world → IsFine n e m None on s.world → 0 < local_len s.world c → is_none (running (run_front s c).state.world c) ≡ false
+  pub start_busy : (m : ℕ) (on : List (Option ℕ)) (s : State) → c < length on → get_or on c None ≡ None → IsClear c s.world → IsFine n e m None on s.world → 0 < local_len s.world c → is_none (running (run_front s c).state.world c) ≡ false
   unfolding run_front
   start_busy m on s l free clear-now h some = go (front_of s.world.queues (local_on c)) refl
     where
@@ -144,7 +144,16 @@ module _ (n e : ℕ) (c : ℕ) where
   local_marks : KeepsMarks Anywhere (λ v. 0 < local_len v c)
   local_marks = record { there = λ w d h l. tt; homed = λ w t d l h. h; sliced = λ w t k h. h; sets = λ w a b d f h. h }
 
-  fill_leaves : (m : ℕ) (on : List (Option ℕ)) (s : State) (q : ℕ) → c < length on → IsFine n e m None on s.world → local_len (fill s q c).state.world c ≡ 0 → IsVain q c s.world (fill s q c).state.world
+  -- a task that leaves a queue for the local one is there
+  pub longer : (m : ℕ) (on : List (Option ℕ)) (w : WorldState) (q t : ℕ) → c < length on → next_for w q c ≡ Some t → IsFine n e m None on w → 0 < local_len (after_local (after_leave w t) c t) c
+  longer m on w q t l f h =
+      let s' = after_remove w.queues t in
+      let here = (next_seen w q c t f).there in
+      let known : t < task_count s' = rw (tasks_removed w.queues t) (place_known w.queues q t here).0 in
+      let ok = takes_queued None on n w q c t l here h.sound in
+      kept_local Anywhere (λ v. 0 < local_len v c) local_marks (after_leave w t) c t tt (omega (arith, len_entered s' (local_on c) t Fifo known ok))
+
+  pub fill_leaves : (m : ℕ) (on : List (Option ℕ)) (s : State) (q : ℕ) → c < length on → IsFine n e m None on s.world → local_len (fill s q c).state.world c ≡ 0 → IsVain q c s.world (fill s q c).state.world
   unfolding fill
   fill_leaves m on s q l h = go (nat_lt 0 (local_len s.world c)) refl (next_for s.world q c) refl
     where
@@ -154,13 +163,7 @@ module _ (n e : ℕ) (c : ℕ) where
       go : (b : Bool) → nat_lt 0 (local_len w c) ≡ b → (o : Option ℕ) → next_for w q c ≡ o → local_len (brought (if b then None else o) w c) c ≡ 0 → IsVain q c w (brought (if b then None else o) w c)
       go true x o f empty = let some : 0 < local_len w c = grind (arith, nat_tests, x) in absurd (omega (arith, some, empty))
       go false x None f empty = (f, empty, refl)
-      go false x (Some t) f empty =
-          let s' = after_remove w.queues t in
-          let here = (next_seen w q c t f).there in
-          let known : t < task_count s' = rw (tasks_removed w.queues t) (place_known w.queues q t here).0 in
-          let ok = takes_queued None on n w q c t l here h.sound in
-          let longer : 0 < local_len (after_local (after_leave w t) c t) c = kept_local Anywhere (λ v. 0 < local_len v c) local_marks (after_leave w t) c t tt (omega (arith, len_entered s' (local_on c) t Fifo known ok)) in
-          absurd (omega (arith, empty, longer))
+      go false x (Some t) f empty = absurd (omega (arith, empty, longer m on w q t l f h))
 
   fill_global : (m : ℕ) (on : List (Option ℕ)) (s : State) → c < length on → IsFine n e m None on s.world → LeavesGlobal c (fill s global c).state.world
   fill_global m on s l h empty = let x = fill_leaves m on s global l h empty in ap (λ (v : WorldState). next_for v global c) x.2 ∙ x.0

@@ -21,10 +21,10 @@ use Rattle.scx_sched_machine.specs.declared.events.Event.{Event}
 use Rattle.scx_sched_machine.specs.declared.events.Event.TheVariants.{Tick, Clock}
 use Rattle.scx_sched_machine.specs.declared.events.Refused.TheVariants.{RunOver, UnknownCpu}
 use Rattle.scx_sched_machine.specs.Callbacks.{AreAnswered}
-use Rattle.scx_sched_machine.specs.Steps.{State, Stepped, with_world, stays}
+use Rattle.scx_sched_machine.specs.Steps.{State, Stepped, with_world}
 use Rattle.scx_sched_machine.specs.Events as machine
 use Rattle.scx_sched_machine.specs.Quiet.{IsAtRest, IsQuiet, skipped}
-use Rattle.scx_sched_machine.proofs.Quiet.{Passes, passes_on, ticked_passes, rest_on, quiet_tick, quiet_clock}
+use Rattle.scx_sched_machine.proofs.Quiet.{Passes, passes_on, ticked_passes, rest_on, Asks, asks_none, quiet_tick, quiet_clock}
 use Rattle.scx_sched.specs.Causes.{EjectsOnce}
 use Rattle.scx_sched.specs.Decided.{EventsDecide, Follows}
 use Rattle.scx_sched.specs.Once.{IsOnce, runs}
@@ -74,11 +74,14 @@ leads_both ns a s t u n m k es fs first second = record {
 
 -- ---- an event of which nothing comes but another state
 
-leads_one : (ns : ℕ) (a : SimState) (s u : State) (n : ℕ) (e : Event) → TicksWithin ns a (at s n) e → machine.refusal s e ≡ None → n < max_events → IsValid s n → machine.event_step s e ≡ stays u → u.world.queues ≡ s.world.queues → is_of_time e ≡ true → Leads ns a s n (e ∷ []) u (n + 1)
-leads_one ns a s u n e within taken room h step same time = record { state = after; quietly = (goes, tt); within = (within, tt); valid = valid }
+leads_one : (ns : ℕ) (a : SimState) (s u : State) (n : ℕ) (e : Event) → TicksWithin ns a (at s n) e → machine.refusal s e ≡ None → n < max_events → IsValid s n → Asks (machine.event_step s e) u → u.world.queues ≡ s.world.queues → is_of_time e ≡ true → Leads ns a s n (e ∷ []) u (n + 1)
+leads_one ns a s u n e within taken room h asks same time = record { state = after; quietly = (goes, tt); within = (within, tt); valid = valid }
   where
     old : SimState
     old = at s n
+
+    step : machine.event_step s e ≡ record { state = u; notes = []; calls = asks.calls }
+    step = asks.step
 
     early : (n == max_events) ≡ false
     early = grind (arith, nat_tests, room)
@@ -90,7 +93,7 @@ leads_one ns a s u n e within taken room h step same time = record { state = aft
     after = ap (λ o. stepped_if o old e) ok ∙ ap (λ (r : Stepped). at r.state (n + 1)) step
 
     answered : AreAnswered (machine.event_step s e).calls
-    answered = subst (λ (r : Stepped). AreAnswered r.calls) (sym step) tt
+    answered = subst (λ (r : Stepped). AreAnswered r.calls) (sym step) asks.answered
 
     pushes : (machine.event_step s e).state.world.queues.pushes ≡ s.world.queues.pushes
     pushes = ap (λ (r : Stepped). r.state.world.queues.pushes) step ∙ ap (λ q. q.pushes) same
@@ -257,7 +260,7 @@ leads_ms ns a s n runs rest h lasts in_time later room =
     subst (λ k. Leads ns a s n (quiet_ms count) (skipped 1 s) k) sum
     (leads_both ns a s v (skipped 1 s) n (n + count) (n + count + 1) (ticks_below count) (Clock ∷ []) before
     (leads_one ns a v (skipped 1 s) (n + count) Clock tt refl (omega (arith, room)) before.valid
-    (quiet_clock v (rest_on s v.world passes rest) waits timers) queues refl))
+    (asks_none (machine.event_step v Clock) (skipped 1 s) (quiet_clock v (rest_on s v.world passes rest) waits timers)) queues refl))
   where
     w : WorldState
     w = s.world
