@@ -1,4 +1,4 @@
-ghost use Rattle.std.specs.Prelude.{Some, IfOk, IfErr};
+ghost use Rattle.std.specs.Prelude.{◌≡◌, false, Some, IfOk, IfErr};
 ghost use Rattle.scx_load_policies.specs.Building.{IsBuilt, IsFirstRefused, AreVerified, IsVerified, IsRefusedAs};
 
 use crate::policy_text::PolicyText;
@@ -45,15 +45,25 @@ pub fn build(alloc: Global, text: PolicyText) -> Result<Policy, BuildError>
     let timers = text.timers();
     let callbacks = verify_all(alloc, text)?;
     match Policy::new_by(rules, defs, timeout_ms, callbacks) {
-        Ok(policy) => {
-            let policy = policy.with_ticks(tick_ms).with_timers(timers);
-            if keeps_idle {
-                Ok(policy.with_idle_kept())
-            } else {
-                Ok(policy)
-            }
-        }
+        Ok(policy) => Ok(completed(policy, tick_ms, timers, keeps_idle)),
         Err(_) => unreachable!(),
+    }
+}
+
+/// The policy with ticks that far apart, that many timers, and idle CPUs tracked or not.
+fn completed(policy: Policy, tick_ms: u32, timers: u8, keeps_idle: bool) -> Policy
+    requires { policy.keeps_idle ≡ false }
+    ensures { result ≡ record policy {
+      tick_ms = tick_ms;
+      timers = timers;
+      keeps_idle = keeps_idle;
+    } }
+{
+    let policy = policy.with_ticks(tick_ms).with_timers(timers);
+    if keeps_idle {
+        policy.with_idle_kept()
+    } else {
+        policy
     }
 }
 
