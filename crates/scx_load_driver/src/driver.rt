@@ -30,7 +30,10 @@ pub enum Phase {
 /// The most events of a block.
 const MAX_BLOCK: usize = 1024;
 
-/// Half of the most milliseconds from a vain try to skip milliseconds to the next one.
+/// As many milliseconds skipped at once are worth the tries in vain that may follow.
+const MANY: u32 = 4;
+
+/// Half of the most milliseconds from a try that skips fewer to the next one.
 const HALF_PAUSE: u32 = 16;
 
 /// The events of a workload, one after another.
@@ -69,7 +72,7 @@ pub struct Driver {
     taken: usize,
     /// Before this millisecond none is skipped.
     next_try: u32,
-    /// The milliseconds from a vain try to the next one.
+    /// The milliseconds from a try that gains little to the next one.
     pause: u32,
 }
 
@@ -239,7 +242,8 @@ impl Driver {
     }
 
     /// Gives the machine at once the events of milliseconds that come next and in which nothing happens but that tasks
-    /// run. The machine took exactly the events before them. After a vain try the next ones come later and later.
+    /// run. The machine took exactly the events before them. After a try that gains little the next ones come later and
+    /// later.
     #[inline(always)]
     #[tactic(auto, using(crate::proofs::Passing::skips_none))]
     pub fn skip(&mut self, sim: &mut Sim)
@@ -250,25 +254,30 @@ impl Driver {
         }
     }
 
-    /// `skip`, whenever the last try was.
+    /// `skip`, however long ago the last try was.
     #[tactic(auto, using(crate::proofs::Passing::skips_same, crate::proofs::Passing::skips_both))]
     fn try_to_skip(&mut self, sim: &mut Sim)
         ensures { Skips (remaining self.old sim.old) sim.old (remaining self.new sim.new) sim.new }
     {
+        let before = self.clock;
         self.come_to_ticks();
         if self.skip_some(sim) {
-            self.pause = 1;
             self.skip_on(sim);
+            self.put_off(self.clock.saturating_sub(before));
         } else {
-            self.put_off();
+            self.put_off(0);
         }
     }
 
-    /// The next try to skip milliseconds comes after a pause, and the one after it after a longer one.
+    /// Puts off the next try to skip milliseconds: to the next millisecond after many skipped ones, and for a pause after
+    /// few, which is longer each time.
     #[inline(always)]
-    fn put_off(&mut self)
+    fn put_off(&mut self, skipped: u32)
         ensures { self.new ≡ self.old }
     {
+        if MANY <= skipped {
+            self.pause = 1;
+        }
         self.next_try = self.clock.saturating_add(self.pause);
         self.pause = cmp::min(self.pause, HALF_PAUSE) * 2;
     }
