@@ -2,7 +2,7 @@ ghost use Rattle.std.specs.Prelude.{◌≤◌};
 
 use crate::counted::Counted;
 use crate::out::{Failed, Out, write_front};
-use crate::short::SHORT;
+use crate::short::{SHORT, Short};
 use std::alloc::Allocator;
 use std::io::{BufWriter, Write};
 
@@ -140,5 +140,14 @@ impl<W: Out> Out for Blocks<W> {
         self.make_room()?;
         self.hold(text, count);
         Ok(())
+    }
+
+    #[inline(always)]
+    fn hold_text<T: Short>(&mut self, text: &T) -> bool {
+        let has_room = self.end <= BLOCK - SHORT;
+        if has_room {
+            self.end = text.put(&mut self.block, self.end);
+        }
+        has_room
     }
 }

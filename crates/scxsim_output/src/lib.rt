@@ -13,5 +13,5 @@ mod text;
 pub use blocks::Blocks;
 pub use counted::Counted;
 pub use out::{Failed, Out, write_all, write_named, write_parts};
-pub use short::{SHORT, put_byte, put_bytes, put_name};
+pub use short::{SHORT, Short, put_byte, put_bytes, put_name};
 pub use text::Text;

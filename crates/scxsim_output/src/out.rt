@@ -1,8 +1,8 @@
-ghost use Rattle.std.specs.Prelude.{◌≡◌, ℕ, ◌-◌, ◌^◌, ◌<◌, ◌≤◌, ◌++◌, List, length, take, Option, None, IsErr, IfOk, OnOk, OnErr};
+ghost use Rattle.std.specs.Prelude.{◌≡◌, true, false, ℕ, ◌-◌, ◌^◌, ◌<◌, ◌≤◌, ◌++◌, List, length, take, Option, None, IsErr, IfOk, OnOk, OnErr};
 ghost use Rattle.std.specs.Io.KnownBytes.{Appends, WriteAppends};
 ghost use Rattle.scxsim_output.specs.Output.{IsFailure, Counts, HasFailed, AppendsBeginning};
 
-use crate::short::SHORT;
+use crate::short::{SHORT, Short};
 use thiserror::Error;
 
 /// An output that took no more bytes.
@@ -54,6 +54,18 @@ pub trait Out {
             done += taken;
         }
         Ok(())
+    }
+
+    /// Takes a text if it can do so with no write, and answers whether it did. Else nothing changes.
+    #[inline(always)]
+    fn hold_text<T: Short>(&mut self, text: &T) -> bool
+        ensures held { result ≡ true
+            → Appends (contents self.old) (contents self.new) (T.text text.now) }
+        ensures left { result ≡ false → self.new ≡ self.old }
+        ensures failures { failure_count self.new ≡ failure_count self.old }
+    {
+        let _ = text;
+        false
     }
 }
 

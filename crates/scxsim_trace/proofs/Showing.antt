@@ -1,13 +1,12 @@
 -- A run as it is shown to an observer, one note and one event after another.
-use Rattle.std.proofs.Common.{◌≡◌, ℕ, Bool, true, false, List, [], ◌∷◌, ◌++◌, refl, sym, ap, subst, ◌∙◌}
+use Rattle.std.proofs.Common.{◌≡◌, ℕ, Bool, true, false, List, [], ◌∷◌, refl, sym, ap, subst, ◌∙◌}
 use Rattle.scx_sched_world.specs.declared.notes.Note.{Note}
 use Rattle.scx_sched_world.specs.declared.notes.What.{What}
 use Rattle.scx_sched_machine.specs.declared.events.Event.{Event}
 use Rattle.scx_sched_machine.specs.Notes.{Takes}
 use Rattle.scx_sched.specs.Sim.{SimState, after_event, notes_of}
-use Rattle.scx_load_driver.specs.Runs.{stepped_all}
 use Rattle.scxsim_trace.specs.Runs.{Observed}
-use Rattle.scxsim_trace.specs.Observing.{IsShown, IsWatched, AreWatched, Watches, HandsOn, ComesTo}
+use Rattle.scxsim_trace.specs.Observing.{IsShown, IsWatched, Watches, HandsOn, ComesTo}
 
 -- the observer of a sink that takes notes
 pub handed_on : {S G V : Type 0} (lead : S → G) (at_end : S → Bool) (view : S → V) (has_failed : V → Bool) (shows : V → ℕ → ℕ → What → V → Type 0) (notes : List Note) (s t : S)

@@ -10,6 +10,7 @@
 mod clock_text;
 mod event_sink;
 mod events;
+mod kinds;
 mod lines;
 mod names;
 mod observer;

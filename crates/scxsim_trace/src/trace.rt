@@ -62,6 +62,11 @@ impl<N: Names, W: Out> Sink for Trace<'_, N, W> {
         let failed = self.failed;
         failed
     }
+
+    #[inline(always)]
+    fn heeds_runs(&self) -> bool {
+        false
+    }
 }
 
 impl<N: Names, W: Out> EventSink for Trace<'_, N, W> {
