@@ -43,6 +43,7 @@ use Rattle.scx_sched.proofs.Pushes.{takes_queued}
 use Rattle.scx_sched.proofs.Seen.{next_seen}
 use Rattle.scx_sched.proofs.Blaming.{IsHonest, apart, plain_on, honest_joined, honest_call_back, honest_supply, honest_tries, honest_leaves_cpu, honest_builtin_cycle, honest_look, way_plain}
 use Rattle.scx_sched.proofs.Clear.{IsClear, MayStart, IsReady}
+use Rattle.scx_sched.proofs.Idle.{plain_leaves, pick_plain, give_up_plain, concluded_plain, start_busy, IsVain, longer, fill_leaves}
 use Rattle.scx_sched.proofs.Ready.{ready_leave}
 use Rattle.scx_sched.proofs.Supplying.{supply_clears}
 use Rattle.scx_sched.proofs.Marks.{KeepsMarks, Anywhere, kept_cycling, kept_local}
@@ -102,33 +103,6 @@ out_stays s r honest out force = go s.world.ejected refl out
 pub busy : (qs : List ℕ) (c : ℕ) (w : WorldState) → is_none (running w c) ≡ false → EmptiesIfIdle qs c w
 busy qs c w e force idle = let bad : false ≡ true = sym e ∙ idle in absurd (cc)
 
--- by plain rules each task leaves
-plain_leaves : (s : State) (p : Option ℕ) → is_by_linux s ≡ false → LeavesPlainly p s
-plain_leaves s None plain = tt
-plain_leaves s (Some t) plain = plain
-
--- by plain rules the front runs that there is once the task before has left
-pick_plain : (s : State) (c : ℕ) (p : Option ℕ) (ran : Bool) → is_by_linux s ≡ false → (pick s c p ran).state ≡ (start_or_cycle (leave s c p).state c ran).state
-unfolding pick picked
-pick_plain s c p ran plain = ap (λ b. (after_pick (if b then front_of s.world.queues (local_on c) else None)).state) plain ∙ ap (λ (v : State). (start_or_cycle v c ran).state) (way_plain s c p ran plain)
-  where
-    after_pick : Option ℕ → Stepped
-    after_pick o = let l = makes_way (refilled s o) c p ran in one_after_other l (start_picked_or_cycle o l.state c ran)
-
--- a processor gives up for good
-give_up_plain : (s : State) (c : ℕ) (p : Option ℕ) → is_by_linux s ≡ false → give_up s c p ≡ s
-unfolding give_up
-give_up_plain s c p plain = ap (λ b. if b && asks_again s c p then kicked s c else s) plain
-
--- a cycle ends once it is over
-concluded_plain : (s : State) (c : ℕ) (ran : Bool) → is_by_linux s ≡ false → concluded s c ran ≡ stays (cycling s None)
-unfolding concluded falls_idle hears_idle
-concluded_plain s c ran plain = go ran
-  where
-    go : (b : Bool) → (if b && ((is_by_linux s && is_some (program_of s.policy callback.UpdateIdle)) && is_none (running s.world c)) then becomes_idle s c else stays (cycling s None)) ≡ stays (cycling s None)
-    go false = refl
-    go true = ap (λ d. if (d && is_some (program_of s.policy callback.UpdateIdle)) && is_none (running s.world c) then becomes_idle s c else stays (cycling s None)) plain
-
 -- the policy hears of no task that left its custody
 told_plain : (s : State) (c : ℕ) (ns : List Note) → is_by_linux s ≡ false → tells_left s c ns ≡ stays s
 unfolding tells_left hears_dequeue
@@ -139,48 +113,42 @@ heard_plain : (s : State) (c t : ℕ) → is_by_linux s ≡ false → tick_heard
 unfolding tick_heard hears_tick
 heard_plain s c t plain = ap (λ b. if (b && is_some (program_of s.policy callback.Tick)) && is_tick_time s then call_back s callback.Tick (one_task t) t c else stays s) plain
 
--- an accepted push makes its queue longer
-len_entered : (s : QueueState) (q t : ℕ) (r : Rank) → t < task_count s → push_refusal s q t r ≡ None → len_of (after_push s q t r) q ≡ len_of s q + 1
-len_entered s q t r l ok =
-    let here : one_if (q == q) ≡ 1 = rw (eq-eqb q q refl) refl in
-    let free : one_if (is_in q (entry_of s t)) ≡ 0 = rw (free_from s q t r ok) refl in
-    rw ok (omega (arith, len_set s q t (Some (next_entry s q r)) l, free, here))
+-- ---- ways of a cycle
 
--- a fill that brings no task: none that may run on the processor waits in that queue
-abbrev IsVain : ℕ → ℕ → WorldState → WorldState → Type 0
-IsVain q c w v = (next_for w q c ≡ None) × (local_len w c ≡ 0) × (v ≡ w)
+-- a scheduler out of force has its own cycle; another one seeks a task
+pub look_either : (P : WorldState → Type 0) (s : State) (c : ℕ) (p : Option ℕ) (ran : Bool) → (is_ejected s ≡ true → P (builtin_cycle s c p ran).state.world) → P (seek s c p ran).state.world → P (look s c p ran).state.world
+unfolding look
+look_either P s c p ran out force = go (is_ejected s) refl
+  where
+    go : (b : Bool) → is_ejected s ≡ b → P (if b then builtin_cycle s c p ran else seek s c p ran).state.world
+    go true e = out e
+    go false e = force
+
+-- a processor that seeks a task picks the front of its local queue, or asks for one
+pub seek_either : (n e c : ℕ) (P : WorldState → Type 0) (m : ℕ) (on : List (Option ℕ)) (s : State) (p : Option ℕ) (ran : Bool) → c < length on → IsFine n e m None on s.world
+    → (has_local (supply s c).state c ≡ true → IsClear c (supply s c).state.world → IsFine n e m None on (supply s c).state.world → P (pick (supply s c).state c p ran).state.world)
+    → (IsFine n e m None on (supply s c).state.world → P (ask (supply s c).state c p ran).state.world)
+    → P (seek s c p ran).state.world
+unfolding seek
+seek_either n e c P m on s p ran l h picks asks = go (has_local f c) refl
+  where
+    f : State
+    f = (supply s c).state
+
+    x : IsFine n e m None on f.world
+    x = keeps_supply n (IsFine n e) (fine_inside n e) m on s c l h
+
+    go : (b : Bool) → has_local f c ≡ b → P (if b then pick f c p ran else ask f c p ran).state.world
+    go true z = picks z (clear_now n (IsFine n e) (fine_inside n e) m on f c x (supply_clears s c)) x
+    go false z = asks x
 
 module _ (qs : List ℕ) (n e : ℕ) (c : ℕ) where
   -- ---- who is brought
 
-  local_marks : KeepsMarks Anywhere (λ v. 0 < local_len v c)
-  local_marks = record { there = λ w d h l. tt; homed = λ w t d l h. h; sliced = λ w t k h. h; sets = λ w a b d f h. h }
-
-  -- a task that leaves a queue for the local one is there
-  longer : (m : ℕ) (on : List (Option ℕ)) (w : WorldState) (q t : ℕ) → c < length on → next_for w q c ≡ Some t → IsFine n e m None on w → 0 < local_len (after_local (after_leave w t) c t) c
-  longer m on w q t l f h =
-      let s' = after_remove w.queues t in
-      let here = (next_seen w q c t f).there in
-      let known : t < task_count s' = rw (tasks_removed w.queues t) (place_known w.queues q t here).0 in
-      let ok = takes_queued None on n w q c t l here h.sound in
-      kept_local Anywhere (λ v. 0 < local_len v c) local_marks (after_leave w t) c t tt (omega (arith, len_entered s' (local_on c) t Fifo known ok))
-
-  fill_leaves : (m : ℕ) (on : List (Option ℕ)) (s : State) (q : ℕ) → c < length on → IsFine n e m None on s.world → local_len (fill s q c).state.world c ≡ 0 → IsVain q c s.world (fill s q c).state.world
-  unfolding fill
-  fill_leaves m on s q l h = go (nat_lt 0 (local_len s.world c)) refl (next_for s.world q c) refl
-    where
-      w : WorldState
-      w = s.world
-
-      go : (b : Bool) → nat_lt 0 (local_len w c) ≡ b → (o : Option ℕ) → next_for w q c ≡ o → local_len (brought (if b then None else o) w c) c ≡ 0 → IsVain q c w (brought (if b then None else o) w c)
-      go true x o f empty = let some : 0 < local_len w c = grind (arith, nat_tests, x) in absurd (omega (arith, some, empty))
-      go false x None f empty = (f, empty, refl)
-      go false x (Some t) f empty = absurd (omega (arith, empty, longer m on w q t l f h))
-
   -- the global queue is empty too, once the local one was filled from there
   pub fill_empties : (m : ℕ) (on : List (Option ℕ)) (s : State) → c < length on → IsFine n e m None on s.world → Empties qs c s.world → Empties (global ∷ qs) c (fill s global c).state.world
   fill_empties m on s l h y force empty =
-      let v = fill_leaves m on s global l h empty in
+      let v = fill_leaves n e c m on s global l h empty in
       subst (λ (u : WorldState). NoneNext c (global ∷ qs) u) (sym v.2) (v.0, y (ap (λ (u : WorldState). u.ejected) (sym v.2) ∙ force) v.1)
 
   -- ---- dispatch
@@ -215,7 +183,7 @@ module _ (qs : List ℕ) (n e : ℕ) (c : ℕ) where
       go true None f (Vain same none) = Vain same (f, none)
       go true None f (Brought some) = Brought some
       go true None f (Failed x e) = Failed x e
-      go true (Some t) f y = Brought (longer m on w k t l f h)
+      go true (Some t) f y = Brought (longer n e c m on w k t l f h)
       go false o f y = Failed _ refl
 
   served_empties : (s : State) (v : WorldState) → IsServed qs c (at_callback s.world callback.Dispatch 0 c) v → Empties qs c (ended_in s v)
@@ -290,19 +258,6 @@ module _ (qs : List ℕ) (n e : ℕ) (c : ℕ) where
 
   -- ---- who comes to run
 
-  pub start_busy : (m : ℕ) (on : List (Option ℕ)) (s : State) → c < length on → get_or on c None ≡ None → IsClear c s.world → IsFine n e m None on s.world → 0 < local_len s.world c → is_none (running (run_front s c).state.world c) ≡ false
-  unfolding run_front
-  start_busy m on s l free clear-now h some = go (front_of s.world.queues (local_on c)) refl
-    where
-      go : (o : Option ℕ) → front_of s.world.queues (local_on c) ≡ o → is_none (running (started_if o s c).state.world c) ≡ false
-      go None f = absurd (omega (arith, some, no_front_is_empty s.world.queues (local_on c) f))
-      go (Some t) f =
-          let l' : c < length (set on c (Some t)) = rw (length-set on c (Some t)) l in
-          let v = with_world s (started_at (Some t) s.world c) in
-          let y = keeps_switched n (IsFine n e) (fine_steps n e) m None (set on c (Some t)) v t ((fine_steps n e).started m on s.world c t l free f (clear-now t f) h) in
-          let x = keeps_running_on n (IsFine n e) (fine_steps n e) m None (set on c (Some t)) (switched v t) c t l' y in
-          rw (x.sound.cpus, get_or-set_same on c (Some t) None l) refl
-
   pub out_empties : (s : State) (r : Stepped) → IsHonest s r → is_some s.world.ejected ≡ true → EmptiesIfIdle qs c r.state.world
   out_empties s r honest out force idle = absurd (out_stays s r honest out force)
 
@@ -316,7 +271,7 @@ module _ (qs : List ℕ) (n e : ℕ) (c : ℕ) where
       out empty (Some x) e = refl
 
       go : (b : Bool) → has_local s c ≡ b → EmptiesIfIdle qs c (if b then run_front s c else builtin_cycle s c None ran).state.world
-      go true z = busy qs c (run_front s c).state.world (start_busy m on s l free ready.clear h (some_local (local_len s.world c) (local_len s.world c == 0) refl z))
+      go true z = busy qs c (run_front s c).state.world (start_busy n e c m on s l free ready.clear h (some_local (local_len s.world c) (local_len s.world c == 0) refl z))
       go false z = out_empties s (builtin_cycle s c None ran) (honest_builtin_cycle s c None ran) (out (no_local (local_len s.world c) (local_len s.world c == 0) refl z) s.world.ejected refl)
 
   pub pick_empties : (m : ℕ) (on : List (Option ℕ)) (s : State) (p : Option ℕ) (ran : Bool) → is_by_linux s ≡ false → c < length on → IsKnown n p → get_or on c None ≡ p → has_local s c ≡ true → IsClear c s.world → IsFine n e m None on s.world → EmptiesIfIdle qs c (pick s c p ran).state.world
@@ -360,29 +315,14 @@ module _ (qs : List ℕ) (n e : ℕ) (c : ℕ) where
       (conclude_empties m on d.state p ran still l known runs (tries_clear n (IsFine n e) (fine_inside n e) m on 32 s c p may) x (tries_at_once m on l 32 s p (omega arith) such h))
 
   seek_empties : (m : ℕ) (on : List (Option ℕ)) (s : State) (p : Option ℕ) (ran : Bool) → IsShared qs s → c < length on → IsKnown n p → get_or on c None ≡ p → IsFine n e m None on s.world → EmptiesIfIdle qs c (seek s c p ran).state.world
-  unfolding seek
-  seek_empties m on s p ran such l known runs h = go (has_local f c) refl
-    where
-      f : State
-      f = (supply s c).state
-
-      x : IsFine n e m None on f.world
-      x = keeps_supply n (IsFine n e) (fine_inside n e) m on s c l h
-
-      still : IsShared qs f
-      still = shared_on qs s (supply s c) (honest_supply s c) such
-
-      go : (b : Bool) → has_local f c ≡ b → EmptiesIfIdle qs c (if b then pick f c p ran else ask f c p ran).state.world
-      go true z = pick_empties m on f p ran still.plain l known runs z (clear_now n (IsFine n e) (fine_inside n e) m on f c x (supply_clears s c)) x
-      go false z = ask_empties m on f p ran still l known runs (supply_clears s c) x
+  seek_empties m on s p ran such l known runs h =
+      let f = (supply s c).state in
+      let still = shared_on qs s (supply s c) (honest_supply s c) such in
+      seek_either n e c (EmptiesIfIdle qs c) m on s p ran l h (λ z clear x. pick_empties m on f p ran still.plain l known runs z clear x) (λ x. ask_empties m on f p ran still l known runs (supply_clears s c) x)
 
   look_empties : (m : ℕ) (on : List (Option ℕ)) (s : State) (p : Option ℕ) (ran : Bool) → IsShared qs s → c < length on → IsKnown n p → get_or on c None ≡ p → IsFine n e m None on s.world → EmptiesIfIdle qs c (look s c p ran).state.world
-  unfolding look
-  look_empties m on s p ran such l known runs h = go (is_ejected s) refl
-    where
-      go : (b : Bool) → is_ejected s ≡ b → EmptiesIfIdle qs c (if b then builtin_cycle s c p ran else seek s c p ran).state.world
-      go true out = out_empties s (builtin_cycle s c p ran) (honest_builtin_cycle s c p ran) out
-      go false force = seek_empties m on s p ran such l known runs h
+  look_empties m on s p ran such l known runs h =
+      look_either (EmptiesIfIdle qs c) s c p ran (out_empties s (builtin_cycle s c p ran) (honest_builtin_cycle s c p ran)) (seek_empties m on s p ran such l known runs h)
 
   cycle_empties : (m : ℕ) (on : List (Option ℕ)) (s : State) (p : Option ℕ) (ran : Bool) → IsShared qs s → c < length on → IsKnown n p → get_or on c None ≡ p → IsFine n e m None on s.world → EmptiesIfIdle qs c (cycle s c p ran).state.world
   unfolding cycle

@@ -38,10 +38,11 @@ use Rattle.scx_sched.proofs.Skeleton.{IsKnown, once_for, keeps_running_on, keeps
 use Rattle.scx_sched.proofs.Cycles.{MayStartUnlessKept, some_local, no_local, keeps_supply, keeps_dispatched, keeps_tries, tries_clear, clear_now, keeps_leave, keeps_refilled, Left}
 use Rattle.scx_sched.proofs.Fine.{fine_steps}
 use Rattle.scx_sched.proofs.Events.{fine_inside, known_running}
+use Rattle.scx_sched.proofs.Idle.{start_busy}
 use Rattle.scx_sched.proofs.Firsts.{no_front_is_empty}
 use Rattle.scx_laws.specs.Serving.{ServesQueues}
 use Rattle.scx_laws.specs.Looking.{HearsNothing, IdlesIfNobodyMayRun, LookingFindsATask, WokenFindsATask}
-use Rattle.scx_laws.proofs.Emptying.{Empties, EmptiesIfIdle, busy, out_stays, fill_empties, called_empties, start_busy, out_empties, pick_empties, rest_empties}
+use Rattle.scx_laws.proofs.Emptying.{Empties, EmptiesIfIdle, look_either, seek_either, busy, out_stays, fill_empties, called_empties, out_empties, pick_empties, rest_empties}
 
 -- a machine of such a policy
 record IsServing (qs : List ℕ) (s : State) : Type 0 where
@@ -185,7 +186,7 @@ module _ (qs : List ℕ) (n e : ℕ) (c : ℕ) where
       out gone (Some y) is = ap (λ (o : Option Eject). is_some o) is
 
       anew : is_some s.world.ejected ≡ true → (b : Bool) → has_local s c ≡ b → EmptiesIfIdle qs c (if b then run_front s c else builtin_cycle s c None ran).state.world
-      anew away true some = busy qs c (run_front s c).state.world (start_busy qs n e c m on s l free (x.none away) h (some_local (local_len s.world c) (local_len s.world c == 0) refl some))
+      anew away true some = busy qs c (run_front s c).state.world (start_busy n e c m on s l free (x.none away) h (some_local (local_len s.world c) (local_len s.world c == 0) refl some))
       anew away false none = out_empties qs n e c s (builtin_cycle s c None ran) (honest_builtin_cycle s c None ran) away
 
       go : (b : Bool) → is_local s c t ≡ b → EmptiesIfIdle qs c (if b then start_picked s c t else start_or_cycle s c ran).state.world
@@ -272,29 +273,14 @@ module _ (qs : List ℕ) (n e : ℕ) (c : ℕ) where
       gave_up m on d.state p ran still.unheard l known runs (tries_clear n (IsFine n e) (fine_inside n e) m on 32 s c p may) (keeps_tries n (IsFine n e) (fine_inside n e) m on 32 s c p l h) (tries_at_once m on l 32 s p (omega arith) such h)
 
   seek_any : (m : ℕ) (on : List (Option ℕ)) (s : State) (p : Option ℕ) (ran : Bool) → IsServing qs s → c < length on → IsKnown n p → get_or on c None ≡ p → IsFine n e m None on s.world → EmptiesIfIdle qs c (seek s c p ran).state.world
-  unfolding seek
-  seek_any m on s p ran such l known runs h = go (has_local f c) refl
-    where
-      f : State
-      f = (supply s c).state
-
-      x : IsFine n e m None on f.world
-      x = keeps_supply n (IsFine n e) (fine_inside n e) m on s c l h
-
-      still : IsServing qs f
-      still = serving_on qs s (supply s c) (honest_supply s c) such
-
-      go : (b : Bool) → has_local f c ≡ b → EmptiesIfIdle qs c (if b then pick f c p ran else ask f c p ran).state.world
-      go true z = pick_any m on f p ran still.unheard l known runs z (clear_now n (IsFine n e) (fine_inside n e) m on f c x (supply_clears s c)) x
-      go false z = ask_any m on f p ran still l known runs (supply_clears s c) x
+  seek_any m on s p ran such l known runs h =
+      let f = (supply s c).state in
+      let still = serving_on qs s (supply s c) (honest_supply s c) such in
+      seek_either n e c (EmptiesIfIdle qs c) m on s p ran l h (λ z clear x. pick_any m on f p ran still.unheard l known runs z clear x) (λ x. ask_any m on f p ran still l known runs (supply_clears s c) x)
 
   look_any : (m : ℕ) (on : List (Option ℕ)) (s : State) (p : Option ℕ) (ran : Bool) → IsServing qs s → c < length on → IsKnown n p → get_or on c None ≡ p → IsFine n e m None on s.world → EmptiesIfIdle qs c (look s c p ran).state.world
-  unfolding look
-  look_any m on s p ran such l known runs h = go (is_ejected s) refl
-    where
-      go : (b : Bool) → is_ejected s ≡ b → EmptiesIfIdle qs c (if b then builtin_cycle s c p ran else seek s c p ran).state.world
-      go true out = out_empties qs n e c s (builtin_cycle s c p ran) (honest_builtin_cycle s c p ran) out
-      go false force = seek_any m on s p ran such l known runs h
+  look_any m on s p ran such l known runs h =
+      look_either (EmptiesIfIdle qs c) s c p ran (out_empties qs n e c s (builtin_cycle s c p ran) (honest_builtin_cycle s c p ran)) (seek_any m on s p ran such l known runs h)
 
   cycle_any : (m : ℕ) (on : List (Option ℕ)) (s : State) (p : Option ℕ) (ran : Bool) → IsServing qs s → c < length on → IsKnown n p → get_or on c None ≡ p → IsFine n e m None on s.world → EmptiesIfIdle qs c (cycle s c p ran).state.world
   unfolding cycle

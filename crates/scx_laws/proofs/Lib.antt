@@ -25,3 +25,13 @@ mod Parked
 mod Releasing
 mod LettingGo
 mod Throttled
+mod Noted
+mod NotedCalls
+mod NotedPuts
+mod NotedDispatch
+mod NotedCycles
+mod NotedWakes
+mod NotedSleeps
+mod NotedTicks
+mod NotedEvents
+mod NotedRuns

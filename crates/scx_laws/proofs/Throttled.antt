@@ -211,12 +211,13 @@ rightly_on s [] firm h = h
 rightly_on s (e ∷ es) firm h = rightly_on (after_event s e) es (firm_step s e firm) (rightly_after s e firm h)
 
 -- no task is runnable as a machine begins
-active_started : (p : PolicyState) (tree : Hierarchy) (cpus : ℕ) (t : State) → first_state p tree cpus ≡ Ok t → t.world.tree.active ≡ tree.active
+pub active_started : (p : PolicyState) (tree : Hierarchy) (cpus : ℕ) (t : State) → first_state p tree cpus ≡ Ok t → t.world.tree.active ≡ tree.active
 active_started p tree cpus t e =
     keeps_started cpus (λ s. s.world.tree.active ≡ tree.active) (λ s b a u c any h. ap (λ (x : Hierarchy). x.active) (same_called (acting s b) b a s.maps (at_callback s.world b u c)).3 ∙ h) (λ s h. h) p tree t e
     (keeps_homes (λ v. v.tree.active ≡ tree.active) (λ v u c l same. same) (begun_periods (by_policy p (first_world tree cpus))) refl)
 
-none_active : (p : PolicyState) (tree : Hierarchy) (cpus : ℕ) (s : SimState) (u : ℕ) → IsBegun p tree cpus s → is_active_task tree u ≡ false
+-- nor is one in the tree from which it is made
+pub none_active : (p : PolicyState) (tree : Hierarchy) (cpus : ℕ) (s : SimState) (u : ℕ) → IsBegun p tree cpus s → is_active_task tree u ≡ false
 none_active p tree cpus s u b = go (cases_lt u (length tree.homes))
   where
     test : ℕ → Bool

@@ -6,3 +6,4 @@ pub mod Looking
 pub mod Lines
 pub mod Bounds
 pub mod Throttling
+pub mod Telling

@@ -10,6 +10,7 @@ mod looking;
 mod recognizing;
 mod runs;
 mod serving;
+mod telling;
 mod throttling;
 
 pub use bounds::waits_are_bounded;
@@ -18,4 +19,5 @@ pub use looking::cpus_that_look_find_tasks;
 pub use recognizing::serves_queue_0;
 pub use runs::time_adds_up;
 pub use serving::{no_processor_idles_beside_served_queues, queues_are_served, texts_say_programs};
+pub use telling::notes_tell_the_state;
 pub use throttling::throttled_tasks_stop;
