@@ -6,7 +6,7 @@ use Rattle.std.proofs.lemmas.List.Elements.{All-head, All-tail, All-weaker}
 use Rattle.scx_maps.specs.declared.shape.Shape.{Shape}
 use Rattle.scx_weights.specs.Limits.{has_quota}
 use Rattle.scx_sched_tasks.specs.declared.task.Task.{Task}
-use Rattle.scx_sched_world.specs.World.{are_linux}
+use Rattle.scx_sched_world.specs.World.{WorldState, are_linux}
 use Rattle.scx_sched_machine.specs.declared.events.Event.{Event}
 use Rattle.scx_sched_machine.specs.declared.events.Event.TheVariants.{Wake, Sleep, Tick, Clock, SetWeight, SetTaskWeight}
 use Rattle.scx_sched_machine.specs.declared.events.Refused.{Refused}
@@ -19,9 +19,13 @@ use Rattle.scx_explore_findings.specs.declared.finding.Sort.{Sort}
 use Rattle.scx_explore_findings.specs.Findings.{fault_in, stall_in, exit_in, IsIdleBehind}
 use Rattle.scx_explore_findings.specs.declared.finding.Sort.TheVariants as sort
 use Rattle.scx_explore_findings.specs.Delayed.{delayed_eject, delay_machine, AreClockless, IsSteady, AnswersLater}
-use Rattle.scx_explore_findings.specs.Hidden.{Hidden, unless, since_unless, with_times, hidden_in, all_hidden}
+use Rattle.scx_explore_findings.specs.Hidden.{Hidden, unless, since_unless, with_times, hidden_in, all_hidden, with_tasks}
 use Rattle.scx_explore_findings.specs.HiddenLaws.{LeavesOut}
 use Rattle.scx_explore_findings.specs.HiddenMachines as hidden
+use Rattle.scx_explore_findings.specs.IdleSlices as idle
+use Rattle.scx_explore_findings.specs.IdleSlices.{is_idle_of, any_task, TellNoSlices}
+use Rattle.scx_explore_findings.proofs.IdleRecords.{twice as erased_twice}
+use Rattle.scx_explore_findings.proofs.Words.{idle_written}
 use Rattle.scx_explore_findings.specs.HiddenMachines.{hide_machine, AreUnread, AreAsLate}
 use Rattle.scx_explore_findings.specs.UnreadParts.{AreSame, AnswersAlike}
 use Rattle.scx_explore_findings.specs.WholeForms.{TellsNoTime, IsWhole, IsPlain, IsLed}
@@ -30,11 +34,11 @@ use Rattle.scx_explore_findings.proofs.EventWalk.{IsWeighing}
 use Rattle.scx_explore_findings.proofs.FirstLed.{first_led}
 use Rattle.scx_explore_findings.proofs.Led.{AreUnweighing, led_one, led_all, led_suited}
 use Rattle.scx_explore_findings.proofs.EventSizes.{policy_after}
-use Rattle.scx_explore_findings.proofs.Machines.{events_dont_depend}
-use Rattle.scx_explore_findings.proofs.Shown.{same_machines_show_the_same}
+use Rattle.scx_explore_findings.proofs.Machines.{events_dont_depend, events_tell_no_idle_slices}
+use Rattle.scx_explore_findings.proofs.Shown.{same_machines_show_the_same, idle_shown}
 use Rattle.scx_explore_findings.proofs.SameMachines.{events_read_no_such_part, counted, room_for_one, room_for_rest, one_longer, states_back}
 use Rattle.scx_explore_findings.proofs.SameShown.{such_parts_show_nothing}
-use Rattle.scx_explore_findings.proofs.SameTold.{IsSuited, clock_kept, clock_told, whole_told}
+use Rattle.scx_explore_findings.proofs.SameTold.{IsSuited, resting, clock_kept, clock_told, whole_told}
 use Rattle.scx_explore_findings.proofs.UnusedGroups.{unused, unused_is_steady, unused_there, unused_here, same_itself}
 use Rattle.scx_explore_states.specs.Words.{most_queues}
 use Rattle.scx_explore_states.specs.Written.{IsWritten}
@@ -233,18 +237,23 @@ free_so f ids s t less e sort.Idle k = λ force. less.idle e (k (less.force forc
 free_so f ids s t less e sort.Overtaken k = k
 free_so f ids s t less e sort.Exit k = less.exits ∙ k
 
+-- a machine has the groups and rules of that one
+record IsOf (root s : SimState) : Type 0 where
+  pub groups : s.state.world.tree.groups ≡ root.state.world.tree.groups
+  pub rules : s.state.world.rules ≡ root.state.world.rules
+
+is_of : (shapes : List Shape) (root s : SimState) → IsLed shapes root s → IsOf root s
+is_of shapes root s led = record { groups = sym led.tidy.1.0.0; rules = led.rules }
+
 -- pairs of machines that answer an event alike, and are pairs again after it
-record AreLinked (shapes : List Shape) (root : SimState) (f : Form) (ids : List ℕ) (R : SimState → SimState → Type 0) : Type 0 where
+record AreLinked (root : SimState) (f : Form) (ids : List ℕ) (R : SimState → SimState → Type 0) : Type 0 where
   pub shows : (s t : SimState) → R s t → ShowsLess f ids s t
   pub refused : (s t : SimState) (e : Event) → R s t → s.events < max_events → t.events < max_events → refusal s e ≡ refusal t e
   pub after :
       (s t : SimState) (e : Event)
       → R s t
-      → IsLed shapes root s
-      → IsLed shapes root t
-      → refusal s e ≡ None
-      → refusal t e ≡ None
-      → (IsWeighing e → ⊥)
+      → IsOf root (after_event s e)
+      → IsOf root (after_event t e)
       → s.events < max_events
       → t.events < max_events
       → R (after_event s e) (after_event t e)
@@ -258,7 +267,7 @@ record AreAt (shapes : List Shape) (root : SimState) (R : SimState → SimState 
   pub over : s.events ≤ max_events
   pub fits : t.events + length es ≤ max_events
 
-module _ (shapes : List Shape) (root : SimState) (f : Form) (ids : List ℕ) (R : SimState → SimState → Type 0) (linked : AreLinked shapes root f ids R) where
+module _ (shapes : List Shape) (root : SimState) (f : Form) (ids : List ℕ) (R : SimState → SimState → Type 0) (linked : AreLinked root f ids R) where
   module _ (s t : SimState) (e : Event) (es : List Event) (at : AreAt shapes root R s t (e ∷ es)) (fine : refusal s e ≡ None) where
     room_here : s.events < max_events
     room_here = has_one s e at.over fine
@@ -272,11 +281,17 @@ module _ (shapes : List Shape) (root : SimState) (f : Form) (ids : List ℕ) (R 
     fine_there : refusal t e ≡ None
     fine_there = sym (linked.refused s t e at.pair room_here room_there) ∙ fine
 
+    led_here : IsLed shapes root (after_event s e)
+    led_here = led_one shapes root s e fine at.none.0 at.here
+
+    led_there : IsLed shapes root (after_event t e)
+    led_there = led_one shapes root t e fine_there at.none.0 at.there
+
     next : AreAt shapes root R (after_event s e) (after_event t e) es
     next = record {
-      pair = linked.after s t e at.pair at.here at.there fine fine_there at.none.0 room_here room_there;
-      here = led_one shapes root s e fine at.none.0 at.here;
-      there = led_one shapes root t e fine_there at.none.0 at.there;
+      pair = linked.after s t e at.pair (is_of shapes root (after_event s e) led_here) (is_of shapes root (after_event t e) led_there) room_here room_there;
+      here = led_here;
+      there = led_there;
       none = at.none.1;
       over = after_over s e room_here;
       fits = room_for_rest t.events (after_event t e).events (length es) max_events (counted (refusal t e) t e) longer;
@@ -319,8 +334,8 @@ module _ (shapes : List Shape) (root : SimState) (f : Form) (ids : List ℕ) (R 
 
 -- ---- machines of the same time
 
-module _ (shapes : List Shape) (root : SimState) (f : Form) (ids : List ℕ) (none : f.pushes ≡ false) (h : Hidden) (p : PolicyState) (stay : h.waits ≡ false) (unread : AreUnread h p) (out : LeavesOut f h) where
-  alike_linked : AreLinked shapes root f ids (AreAlike h p)
+module _ (root : SimState) (f : Form) (ids : List ℕ) (none : f.pushes ≡ false) (h : Hidden) (p : PolicyState) (stay : h.waits ≡ false) (unread : AreUnread h p) (out : LeavesOut f h) where
+  alike_linked : AreLinked root f ids (AreAlike h p)
   alike_linked = record {
     shows = λ s t alike.
         let same = ejected_alike h p stay unread s t alike in
@@ -333,7 +348,7 @@ module _ (shapes : List Shape) (root : SimState) (f : Form) (ids : List ℕ) (no
           written = λ xs. written_alike h p stay unread s t alike f ids xs none out;
         };
     refused = λ s t e alike room there. refused_alike h p stay unread s t alike e room there;
-    after = λ s t e alike led_s led_t fine good none room there. after_alike h p stay unread s t alike e room there;
+    after = λ s t e alike of_s of_t room there. after_alike h p stay unread s t alike e room there;
   }
 
 -- ---- machines of two times
@@ -350,7 +365,7 @@ record AreTimed (h : Hidden) (p : PolicyState) (s t : SimState) : Type 0 where
   pub rules : are_linux other.state.world.rules ≡ false
   pub after : AreAlike h p (delay_machine later other) t
 
-module _ (shapes : List Shape) (root : SimState) (f : Form) (ids : List ℕ) (none : f.pushes ≡ false) (no_clock : f.clock ≡ false) (h : Hidden) (p : PolicyState) (stay : h.waits ≡ false) (unread : AreUnread h p) (out : LeavesOut f h) (clockless : AreClockless p) (exact : p.tick_ms ≡ 0) (free : has_quota root.state.world.tree.groups ≡ false) (rules : are_linux root.state.world.rules ≡ false) where
+module _ (root : SimState) (f : Form) (ids : List ℕ) (none : f.pushes ≡ false) (no_clock : f.clock ≡ false) (h : Hidden) (p : PolicyState) (stay : h.waits ≡ false) (unread : AreUnread h p) (out : LeavesOut f h) (clockless : AreClockless p) (exact : p.tick_ms ≡ 0) (free : has_quota root.state.world.tree.groups ≡ false) (rules : are_linux root.state.world.rules ≡ false) where
   -- nothing used, in a machine that is the same but for hidden and unread parts
   unused_alike : (s t : SimState) → has_quota s.state.world.tree.groups ≡ false → AreAlike h p s t → AreAlike h p (unused s) t
   unused_alike s t fs alike = record {
@@ -436,13 +451,12 @@ module _ (shapes : List Shape) (root : SimState) (f : Form) (ids : List ℕ) (no
           go None = ap (λ (n : ℕ). n + 1) timed.events
           go (Some r) = timed.events
 
-      after_timed : IsLed shapes root s → refusal s e ≡ None → (IsWeighing e → ⊥) → AreTimed h p (after_event s e) (after_event t e)
+      after_timed : IsOf root (after_event s e) → AreTimed h p (after_event s e) (after_event t e)
       unfolding z k
-      after_timed led fine weighs =
+      after_timed here =
           let s1 = after_event s e in
           let z1 = after_event z e in
-          let led1 = led_one shapes root s e fine weighs led in
-          let free_s : has_quota s1.state.world.tree.groups ≡ false = sym (ap has_quota led1.tidy.1.0.0) ∙ free in
+          let free_s : has_quota s1.state.world.tree.groups ≡ false = ap has_quota here.groups ∙ free in
           let free_z : has_quota z1.state.world.tree.groups ≡ false = sym (ap (λ (x : State). has_quota x.world.tree.groups) as_parts.after.rest) ∙ free_s in
           let moved = subst (λ (x : SimState). AreAlike h p x (after_event t e)) (sym as_later.after) (after_alike h p stay unread (delay_machine k z) t timed.after e room_z room_t) in
           record {
@@ -452,23 +466,120 @@ module _ (shapes : List Shape) (root : SimState) (f : Form) (ids : List ℕ) (no
             before = unused_there s1.state z1.state free_s as_parts.after;
             steady = unused_is_steady z1.state;
             free = free_z;
-            rules = sym (ap (λ (x : State). are_linux x.world.rules) as_parts.after.rest) ∙ (ap are_linux led1.rules ∙ rules);
+            rules = sym (ap (λ (x : State). are_linux x.world.rules) as_parts.after.rest) ∙ (ap are_linux here.rules ∙ rules);
             after = unused_alike (delay_machine k z1) (after_event t e) free_z moved;
           }
 
-  timed_linked : AreLinked shapes root f ids (AreTimed h p)
+  timed_linked : AreLinked root f ids (AreTimed h p)
   timed_linked = record {
     shows = λ s t timed. less_on s t timed;
     refused = λ s t e timed room there. refused_timed s t timed e room there;
-    after = λ s t e timed led_s led_t fine good weighs room there. after_timed s t timed e room there led_s fine weighs;
+    after = λ s t e timed of_s of_t room there. after_timed s t timed e room there of_s;
   }
 
-  timed_back : AreLinked shapes root f ids (λ s t. AreTimed h p t s)
+  timed_back : AreLinked root f ids (λ s t. AreTimed h p t s)
   timed_back = record {
     shows = λ s t timed. less_back t s timed;
     refused = λ s t e timed room there. sym (refused_timed t s timed e there room);
-    after = λ s t e timed led_s led_t fine good weighs room there. after_timed t s timed e there room led_t good weighs;
+    after = λ s t e timed of_s of_t room there. after_timed t s timed e there room of_t;
   }
+
+-- ---- machines that differ in slices of tasks that sleep or are held
+
+-- without these slices, or all the same
+abbrev IsRested : Bool → SimState → SimState → Type 0
+IsRested true s t = idle.AreSame s t
+IsRested false s t = s ≡ t
+
+-- both are the same as two of such a pair, but for these slices if that is so wanted
+record AreRested (less : Bool) (p : PolicyState) (R : SimState → SimState → Type 0) (s t : SimState) : Type 0 where
+  pub one : SimState
+  pub other : SimState
+  pub here : IsRested less s one
+  pub pair : R one other
+  pub there : IsRested less t other
+  pub policy : s.state.policy ≡ p
+  pub policy_there : t.state.policy ≡ p
+
+module _ (root : SimState) (f : Form) (ids : List ℕ) (less : Bool) (p : PolicyState) (tells : less ≡ true → TellNoSlices p) (out : less ≡ true → f.idle_slices ≡ false) where
+  rested_back : (b : Bool) (s t : SimState) → IsRested b s t → IsRested b t s
+  rested_back true s t same = sym same
+  rested_back false s t same = sym same
+
+  -- what such a pair shows
+  shown_rested : (b : Bool) → (b ≡ true → f.idle_slices ≡ false) → (s t : SimState) → IsRested b s t → ShowsLess f ids s t
+  shown_rested false free s t same = subst (ShowsLess f ids s) same (record { force = λ is. is; faults = refl; stalls = refl; exits = refl; idle = λ e is. is; written = λ xs is. is })
+  shown_rested true free s t same =
+      let ejected : s.state.world.ejected ≡ t.state.world.ejected = ap (λ (x : SimState). x.state.world.ejected) same in
+      record {
+        force = λ is. sym ejected ∙ is;
+        faults = ap fault_in ejected;
+        stalls = ap stall_in ejected;
+        exits = ap exit_in ejected;
+        idle = λ e is. idle_shown t s (sym same) e None is;
+        written = λ xs is. idle_written f ids xs t s (free refl) (sym same) is;
+      }
+
+  -- one after another
+  shown_both : (a b c : SimState) → ShowsLess f ids a b → ShowsLess f ids b c → ShowsLess f ids a c
+  shown_both a b c x y = record {
+    force = λ is. y.force (x.force is);
+    faults = x.faults ∙ y.faults;
+    stalls = x.stalls ∙ y.stalls;
+    exits = x.exits ∙ y.exits;
+    idle = λ e is. x.idle e (y.idle e is);
+    written = λ xs is. x.written xs (y.written xs is);
+  }
+
+  events_rested : (b : Bool) (s t : SimState) → IsRested b s t → s.events ≡ t.events
+  events_rested true s t same = ap (λ (x : SimState). x.events) same
+  events_rested false s t same = ap (λ (x : SimState). x.events) same
+
+  refused_rested : (b : Bool) → (b ≡ true → TellNoSlices p) → (s t : SimState) (e : Event) → s.state.policy ≡ p → IsRested b s t → refusal s e ≡ refusal t e
+  refused_rested false may s t e is same = ap (λ (x : SimState). refusal x e) same
+  refused_rested true may s t e is same = (events_tell_no_idle_slices s t e (subst TellNoSlices (sym is) (may refl)) same).refusal
+
+  after_rested : (b : Bool) → (b ≡ true → TellNoSlices p) → (s t : SimState) (e : Event) → s.state.policy ≡ p → IsRested b s t → IsRested b (after_event s e) (after_event t e)
+  after_rested false may s t e is same = ap (λ (x : SimState). after_event x e) same
+  after_rested true may s t e is same = (events_tell_no_idle_slices s t e (subst TellNoSlices (sym is) (may refl)) same).after
+
+  of_rested : (b : Bool) (s t : SimState) → IsRested b s t → IsOf root s → IsOf root t
+  of_rested false s t same x = subst (IsOf root) same x
+  of_rested true s t same x = record {
+    groups = sym (ap (λ (y : SimState). y.state.world.tree.groups) same) ∙ x.groups;
+    rules = sym (ap (λ (y : SimState). y.state.world.rules) same) ∙ x.rules;
+  }
+
+  rested_linked : (R : SimState → SimState → Type 0) → AreLinked root f ids R → AreLinked root f ids (AreRested less p R)
+  rested_linked R linked = record {
+    shows = λ s t x.
+        shown_both s x.one t (shown_rested less out s x.one x.here)
+        (shown_both x.one x.other t (linked.shows x.one x.other x.pair) (shown_rested less out x.other t (rested_back less t x.other x.there)));
+    refused = λ s t e x room there.
+        refused_rested less tells s x.one e x.policy x.here
+        ∙ (linked.refused x.one x.other e x.pair (subst (λ (n : ℕ). n < max_events) (events_rested less s x.one x.here) room) (subst (λ (n : ℕ). n < max_events) (events_rested less t x.other x.there) there)
+        ∙ sym (refused_rested less tells t x.other e x.policy_there x.there));
+    after = λ s t e x of_s of_t room there.
+        let here = after_rested less tells s x.one e x.policy x.here in
+        let end = after_rested less tells t x.other e x.policy_there x.there in
+        record {
+          one = after_event x.one e;
+          other = after_event x.other e;
+          here = here;
+          pair = linked.after x.one x.other e x.pair (of_rested less (after_event s e) (after_event x.one e) here of_s) (of_rested less (after_event t e) (after_event x.other e) end of_t)
+              (subst (λ (n : ℕ). n < max_events) (events_rested less s x.one x.here) room) (subst (λ (n : ℕ). n < max_events) (events_rested less t x.other x.there) there);
+          there = end;
+          policy = policy_after s e ∙ x.policy;
+          policy_there = policy_after t e ∙ x.policy_there;
+        };
+  }
+
+-- slices that are erased are so for good
+rested_so : (less : Bool) (s : SimState) → IsRested less s (resting less s)
+rested_so false s = refl
+rested_so true s =
+    let those = is_idle_of any_task s.state.world in
+    ap (λ (xs : List Task). record s { state = record s.state { world = with_tasks s.state.world xs } }) (erased_twice those those s.state.world.tasks (λ t e. e))
 
 -- what is hidden is so once and for all
 hidden_once : (h : Hidden) (xs : List Task) → all_hidden h (all_hidden h xs) ≡ all_hidden h xs
@@ -527,7 +638,7 @@ module _ (f : Form) (ids : List ℕ) (moves : Moves) (sorts : List Sort) (root :
       near_fits t.events root.events (length near.events) room (length es) max_events count near.few (fits es move)
 
   -- of two machines of such a pair each move is matched
-  linked_so : (R : SimState → SimState → Type 0) → AreLinked shapes root f ids R → R s t → IsMatched f ids moves sorts root s t es
+  linked_so : (R : SimState → SimState → Type 0) → AreLinked root f ids R → R s t → IsMatched f ids moves sorts root s t es
   linked_so R linked pair = matched_so shapes root f ids R linked moves sorts root s t es (record { pair = pair; here = led_s; there = led_t; none = move_none moves root es move; over = s_over; fits = t_fits }) move
 
   h : Hidden
@@ -539,58 +650,77 @@ module _ (f : Form) (ids : List ℕ) (moves : Moves) (sorts : List Sort) (root :
   between : (x y : SimState) → x.state.policy ≡ p → AreSame (hide_machine h x) (hide_machine h y) → AreAlike h p x y
   between x y is told = record { one = hide_machine h x; other = hide_machine h y; here = hidden_same h x; between = told; there = sym (hidden_same h y); policy = is }
 
-  -- at the same time
-  at_once : s.state.world.clock ≡ t.state.world.clock → IsMatched f ids moves sorts root s t es
-  unfolding h p
-  at_once same =
-      let told = whole_told shapes root plain f ids xs whole few s t suited_s suited_t here there 0 (no_later s.state.world.clock t.state.world.clock same) in
-      linked_so (AreAlike h p) (alike_linked shapes root f ids whole.pushes h p whole.waits_stay whole.unread whole.left_out)
-      (subst (λ (x : SimState). AreAlike h p x t) (delay_none s) (between (delay_machine 0 s) t led_s.policy told))
+  -- with slices of tasks that sleep or are held told, or not
+  module _ (less : Bool) (keeps : less ≡ false → f.idle_slices ≡ true) (tells : less ≡ true → TellNoSlices p) (leaves : less ≡ true → f.idle_slices ≡ false) where
+    rested_pair : (R : SimState → SimState → Type 0) → R (resting less s) (resting less t) → AreRested less p R s t
+    unfolding p
+    rested_pair R pair = record { one = resting less s; other = resting less t; here = rested_so less s; pair = pair; there = rested_so less t; policy = led_s.policy; policy_there = led_t.policy }
 
-  module _ (time : TellsNoTime p) (no_clock : f.clock ≡ false) (free : has_quota root.state.world.tree.groups ≡ false) where
-    free_of : (x : SimState) → IsLed shapes root x → has_quota x.state.world.tree.groups ≡ false
-    free_of x l = sym (ap has_quota l.tidy.1.0.0) ∙ free
+    so : (R : SimState → SimState → Type 0) → AreLinked root f ids R → R (resting less s) (resting less t) → IsMatched f ids moves sorts root s t es
+    so R linked pair = linked_so (AreRested less p R) (rested_linked root f ids less p tells leaves R linked) (rested_pair R pair)
 
-    -- the second one later
-    timed_so : (x y : SimState) → IsLed shapes root x → (d : ℕ) → AreSame (hide_machine h (delay_machine d x)) (hide_machine h y) → AreTimed h p x y
+    -- at the same time
+    at_once : s.state.world.clock ≡ t.state.world.clock → IsMatched f ids moves sorts root s t es
     unfolding h p
-    timed_so x y l d told = record {
-      later = d;
-      other = unused x;
-      events = refl;
-      before = unused_there x.state x.state (free_of x l) (same_itself x.state l.fine.sound.stamped);
-      steady = unused_is_steady x.state;
-      free = free_of x l;
-      rules = ap are_linux l.rules ∙ plain.rules;
-      after = unused_alike shapes root f ids whole.pushes no_clock h p whole.waits_stay whole.unread whole.left_out time.clockless time.exact free plain.rules (delay_machine d x) y (free_of x l) (between (delay_machine d x) y l.policy told);
-    }
+    at_once same =
+        let told = whole_told shapes root plain f ids xs whole few s t suited_s suited_t here there less keeps 0 (no_later s.state.world.clock t.state.world.clock same) in
+        so (AreAlike h p) (alike_linked root f ids whole.pushes h p whole.waits_stay whole.unread whole.left_out)
+        (subst (λ (x : SimState). AreAlike h p x (resting less t)) (delay_none (resting less s)) (between (delay_machine 0 (resting less s)) (resting less t) led_s.policy told))
 
-    at_two_times : IsMatched f ids moves sorts root s t es
-    unfolding h p
-    at_two_times =
-        let v = s.state.world.clock in
-        let w = t.state.world.clock in
-        ⊎_elim (λ (l : w < v).
-        linked_so (λ x y. AreTimed h p y x) (timed_back shapes root f ids whole.pushes no_clock h p whole.waits_stay whole.unread whole.left_out time.clockless time.exact free plain.rules)
-        (timed_so t s led_t (v - w) (whole_told shapes root plain f ids xs whole few t s suited_t suited_s there here (v - w) (later_than w v (earlier v w l)))))
-        (λ (l : v ≤ w).
-        linked_so (AreTimed h p) (timed_linked shapes root f ids whole.pushes no_clock h p whole.waits_stay whole.unread whole.left_out time.clockless time.exact free plain.rules)
-        (timed_so s t led_s (w - v) (whole_told shapes root plain f ids xs whole few s t suited_s suited_t here there (w - v) (later_than v w l))))
-        (cases_lt w v)
+    module _ (time : TellsNoTime p) (no_clock : f.clock ≡ false) (free : has_quota root.state.world.tree.groups ≡ false) where
+      free_of : (x : SimState) → IsLed shapes root x → has_quota x.state.world.tree.groups ≡ false
+      free_of x l = sym (ap has_quota l.tidy.1.0.0) ∙ free
 
-  -- whether or not the clock is told
+      -- the second one later
+      timed_so : (x y : SimState) → IsLed shapes root x → (d : ℕ) → AreSame (hide_machine h (delay_machine d (resting less x))) (hide_machine h (resting less y)) → AreTimed h p (resting less x) (resting less y)
+      unfolding h p
+      timed_so x y l d told = record {
+        later = d;
+        other = unused (resting less x);
+        events = refl;
+        before = unused_there (resting less x).state (resting less x).state (free_of x l) (same_itself (resting less x).state l.fine.sound.stamped);
+        steady = unused_is_steady (resting less x).state;
+        free = free_of x l;
+        rules = ap are_linux l.rules ∙ plain.rules;
+        after = unused_alike root f ids whole.pushes no_clock h p whole.waits_stay whole.unread whole.left_out time.clockless time.exact free plain.rules (delay_machine d (resting less x)) (resting less y) (free_of x l) (between (delay_machine d (resting less x)) (resting less y) l.policy told);
+      }
+
+      at_two_times : IsMatched f ids moves sorts root s t es
+      unfolding h p
+      at_two_times =
+          let v = s.state.world.clock in
+          let w = t.state.world.clock in
+          ⊎_elim (λ (l : w < v).
+          so (λ x y. AreTimed h p y x) (timed_back root f ids whole.pushes no_clock h p whole.waits_stay whole.unread whole.left_out time.clockless time.exact free plain.rules)
+          (timed_so t s led_t (v - w) (whole_told shapes root plain f ids xs whole few t s suited_t suited_s there here less keeps (v - w) (later_than w v (earlier v w l)))))
+          (λ (l : v ≤ w).
+          so (AreTimed h p) (timed_linked root f ids whole.pushes no_clock h p whole.waits_stay whole.unread whole.left_out time.clockless time.exact free plain.rules)
+          (timed_so s t led_s (w - v) (whole_told shapes root plain f ids xs whole few s t suited_s suited_t here there less keeps (w - v) (later_than v w l))))
+          (cases_lt w v)
+
+    -- whether or not the clock is told
+    matched_by : IsMatched f ids moves sorts root s t es
+    unfolding p
+    matched_by = go f.clock (has_quota root.state.world.tree.groups) refl refl whole.clock
+      where
+        kept : f.clock ≡ true → IsMatched f ids moves sorts root s t es
+        kept e = at_once (clock_kept shapes root plain f ids xs whole few s t suited_s suited_t here there e)
+
+        go : (b c : Bool) → f.clock ≡ b → has_quota root.state.world.tree.groups ≡ c → (f.clock ≡ true) ⊎ TellsNoTime p → IsMatched f ids moves sorts root s t es
+        go true c e q o = kept e
+        go false true e q o = at_once (clock_told shapes root plain f ids xs whole few s t suited_s suited_t here there (sym (ap has_quota led_s.tidy.1.0.0) ∙ q))
+        go false false e q (inl is) = kept is
+        go false false e q (inr time) = at_two_times time e q
+
+  -- and whether or not slices of tasks that sleep or are held are
   matched : IsMatched f ids moves sorts root s t es
   unfolding p
-  matched = go f.clock (has_quota root.state.world.tree.groups) refl refl whole.clock
+  matched = go f.idle_slices refl whole.idle_slices
     where
-      kept : f.clock ≡ true → IsMatched f ids moves sorts root s t es
-      kept e = at_once (clock_kept shapes root plain f ids xs whole few s t suited_s suited_t here there e)
-
-      go : (b c : Bool) → f.clock ≡ b → has_quota root.state.world.tree.groups ≡ c → (f.clock ≡ true) ⊎ TellsNoTime p → IsMatched f ids moves sorts root s t es
-      go true c e q o = kept e
-      go false true e q o = at_once (clock_told shapes root plain f ids xs whole few s t suited_s suited_t here there (sym (ap has_quota led_s.tidy.1.0.0) ∙ q))
-      go false false e q (inl is) = kept is
-      go false false e q (inr time) = at_two_times time e q
+      go : (b : Bool) → f.idle_slices ≡ b → (f.idle_slices ≡ true) ⊎ TellNoSlices p → IsMatched f ids moves sorts root s t es
+      go true e o = matched_by false (λ is. e) (λ is. absurd (bits_apart false refl is)) (λ is. absurd (bits_apart false refl is))
+      go false e (inl is) = absurd (bits_apart f.idle_slices e is)
+      go false e (inr tells) = matched_by true (λ is. absurd (bits_apart true is refl)) (λ is. tells) (λ is. e)
 
 pub whole_forms_are_respected : WholeFormsAreRespected
 whole_forms_are_respected f ids moves sorts root room shapes whole plain led few fits xs s t es reached near here there move = matched f ids moves sorts root room shapes whole plain led few fits xs s t es reached near here there move

@@ -29,8 +29,9 @@ pub fn unread_parts_are_respected()
 
 /// If a form keeps all that programs can read, what it leaves out changes nothing, in lists from a machine that goes by plain
 /// rules, with no timers, at most eight tasks and sixteen CPUs. Such a form may leave out the number of pushes; the clock
-/// if no program reads it and slices end exactly; and keys, random numbers, run times and virtual times that no program
-/// inserts by, draws or loads. The function does nothing: its contract is the law.
+/// if no program reads it and slices end exactly; slices of tasks that sleep or are held if no program loads a slice and
+/// no insert gives one of 0; and keys, random numbers, run times and virtual times that no program inserts by, draws or
+/// loads. The function does nothing: its contract is the law.
 pub fn whole_forms_are_respected()
     ensures { WholeFormsAreRespected }
 {}

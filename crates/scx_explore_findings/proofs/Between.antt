@@ -168,7 +168,7 @@ module _ (b : Bool) where
     faulty = λ x. h;
     ended = λ n. h;
     created = λ may q. h;
-    inserted = λ t i fifo. tracked_inserted w None t i h;
+    inserted = λ may t i fifo. tracked_inserted w None t i h;
     by_vtime = λ may t i. tracked_inserted w None t i h;
     late = h;
     moved = λ o. tracked_moved w o h;

@@ -1,9 +1,8 @@
 -- One walk over the helpers, for what holds of each world that an allowed call may leave. And what a helper answers and
--- makes of a world doesn't depend on what is hidden, nor does what is loaded of a field that isn't hidden, or stored to
--- any.
-use Rattle.std.proofs.Common.{◌≡◌, ℕ, zero, suc, ◌-◌, ◌&&◌, ◌||◌, is_none, Bool, false, cond, if◌then◌else◌, nat_lt, nat_le, List, length, map, Option, Some, None, refl, sym, ap, ◌∙◌}
+-- makes of a world doesn't depend on what is left out, nor does what is loaded of a field that isn't, or stored to any.
+use Rattle.std.proofs.Common.{◌≡◌, ℕ, zero, suc, ◌-◌, ◌&&◌, ◌||◌, is_none, Bool, false, cond, if◌then◌else◌, nat_lt, nat_le, List, length, map, Option, Some, None, refl, sym, ap, ◌∙◌, ◌==◌, true, ◌<◌, inl, inr, ◌⊎◌, ⊎_elim, arith}
 use Rattle.scx_dsq.specs.Laws.{one_if}
-use Rattle.scx_dsq.specs.Calls.{after_create}
+use Rattle.scx_dsq.specs.Calls.{after_create, after_push, after_remove}
 use Rattle.scx_isa_semantics.specs.declared.callbacks.Callback.{Callback}
 use Rattle.scx_isa_semantics.specs.declared.callbacks.Callback.TheVariants as callback
 use Rattle.scx_isa_semantics.specs.declared.host_tables.Field.{Field}
@@ -23,19 +22,27 @@ use Rattle.scx_sched_world.specs.declared.kicks.Kick.{Kick}
 use Rattle.scx_sched_world.specs.declared.kicks.Kick.TheVariants.{Any, IfIdle, Preempt}
 use Rattle.scx_dsq.specs.declared.entries.Rank.TheVariants.{Fifo, Front}
 use Rattle.scx_sched_world.specs.declared.notes.What.TheVariants as notes
-use Rattle.scx_sched_world.specs.World.{WorldState, with_queues, with_kick, with_preemption, is_by_linux, running, is_this, current_in, current, this_if, is_free, choice, after_claim, with_note}
+use Rattle.scx_sched_world.specs.World.{WorldState, with_queues, with_kick, with_preemption, is_by_linux, running, is_this, current_in, current, this_if, is_free, choice, after_claim, with_note, task_at, with_task}
 use Rattle.scx_sched_world.specs.declared.passing.Switch.{Switch}
 use Rattle.scx_sched_world.specs.declared.timers.Alarm.{Alarm}
 use Rattle.scx_weights.specs.Counting.{any_below}
 use Rattle.scx_weights.specs.Hierarchy.{own_weight}
-use Rattle.scx_sched_world.specs.Tasks.{after_leave, for_cpu, next_for}
+use Rattle.scx_sched_world.specs.Tasks.{after_leave, for_cpu, next_for, with_slice, with_home, homed, homed_at, local_cpu, task_after_insert, rank_by, after_preempt_of, after_preempt_at, after_preempt, after_enter}
 use Rattle.scx_sched_world.specs.Helpers.{with_fault, invalid_if, is_there, can_create, is_dispatch, may_insert_in, may_insert, queue_fault, rank_fault, or_fault, has_preempt, has_head, arrival_rank, flags_fault, cpu_meant, may_go, placing_fault, insert_fault, is_late, after_late, with_insert, with_move, after_release, insert_or_fault, after_insert, insert_answer, insert_of, insert_of_vtime, can_move, moved_to_local, unless_fault, untracked_fault, cpu_fault, ask_fault, fault_or, choice_answer, after_choice, kick_of, kick_fault, kicked_or_fault, after_kick, after_exit, task_or_null, is_current_one, cpu_of_task, may_run_there, after_random, first_free_in, pick_fault, after_pick_by, after_pick, timer_fault, with_timer, alarm_in, given_number, given_task, helper_answer, helper_after, field_of, stored_in, world_functions}
 use Rattle.scx_sched_machine.proofs.Choices.{keeps_if}
-use Rattle.scx_explore_findings.specs.Hidden.{Hidden, hide}
 use Rattle.scx_explore_findings.specs.Unread.{is_hidden}
 use Rattle.scx_explore_findings.specs.FifoOnly.{IsFifo}
-use Rattle.scx_explore_findings.proofs.Records.{alike_if, keeps_store, length_same}
-use Rattle.scx_explore_findings.proofs.Worlds.{Hides, plain, read, weight_same, group_same, chosen_same, choice_same, set_task, hides_local, hides_enter, hides_claim}
+use Rattle.scx_sched.proofs.Seen.{next_seen}
+use Rattle.std.proofs.lemmas.Bool.{eqb-true, ltb-true}
+use Rattle.scx_dsq.specs.Queues.{exists}
+use Rattle.scx_sched_world.specs.CpuSets.{and_cpu}
+use Rattle.scx_sched_world.specs.Ids.{policy_end, held_queue, local_on}
+use Rattle.scx_explore_findings.specs.IdleSlices.{is_idle_of, is_slice, IsGivenSlice, GivesOne}
+use Rattle.scx_explore_findings.proofs.Records.{alike_if, keeps_store}
+use Rattle.scx_explore_findings.proofs.IdleRecords.{bits, keeps_store as sliceless_store}
+use Rattle.scx_explore_findings.proofs.Omitting.{Omitted, omit, length_same, IfAny}
+use Rattle.scx_explore_findings.proofs.IdleTasks.{queued_busy, out_busy, may_enter}
+use Rattle.scx_explore_findings.proofs.Worlds.{Same, Hides, plain, both, read, read_busy, weight_same, group_same, chosen_same, choice_same, set_task, hides_leave, hides_create, hides_enter, hides_claim, moved_on}
 
 -- ---- what a call may leave
 
@@ -47,7 +54,7 @@ pub record HoldsAfter (may : Helper → Type 0) (P : WorldState → Type 0) (w :
   pub faulty : (f : Fault) → P (with_fault w f)
   pub ended : (n : ℕ) → P (after_exit w n)
   pub created : may CreateDsq → (q : ℕ) → P (with_queues w (after_create w.queues q))
-  pub inserted : (t : Option ℕ) (i : Insert) → IsFifo i.rank → P (insert_or_fault w None t i)
+  pub inserted : may DsqInsert → (t : Option ℕ) (i : Insert) → IsFifo i.rank → P (insert_or_fault w None t i)
   pub by_vtime : may DsqInsertVtime → (t : Option ℕ) (i : Insert) → P (insert_or_fault w None t i)
   pub late : P (with_move w)
   pub moved : (o : Option ℕ) → P (moved_to_local w o)
@@ -96,7 +103,7 @@ module _ (may : Helper → Type 0) (P : WorldState → Type 0) (w : WorldState) 
   -- whichever helper is called that may be, and whatever it is given
   pub by_helper : (f : Helper) → may f → (a : List Arg) → P (helper_after w f a)
   by_helper CreateDsq m a = keeps_if P (can_create w (given_number a 0)) (with_queues w (after_create w.queues (given_number a 0))) (with_fault w CannotCreate) (h.created m (given_number a 0)) (h.faulty CannotCreate)
-  by_helper DsqInsert m a = inserts (given_task a 0) (insert_of w a) (given_number a 3) (h.inserted (given_task a 0) (insert_of w a) (arrives (given_number a 3)))
+  by_helper DsqInsert m a = inserts (given_task a 0) (insert_of w a) (given_number a 3) (h.inserted m (given_task a 0) (insert_of w a) (arrives (given_number a 3)))
   by_helper DsqInsertVtime m a = inserts (given_task a 0) (insert_of_vtime w a) (given_number a 4) (h.by_vtime m (given_task a 0) (insert_of_vtime w a))
   by_helper DsqMoveToLocal m a = keeps_if P (can_move w (given_number a 0)) (moved_to_local w (next_for w (given_number a 0) w.call.cpu)) (with_fault w NoSuchQueue) (h.moved (next_for w (given_number a 0) w.call.cpu)) (h.faulty NoSuchQueue)
   by_helper CpuIdle m a = or_done (ask_fault w (given_number a 0)) w h.same
@@ -119,12 +126,27 @@ module _ (may : Helper → Type 0) (P : WorldState → Type 0) (w : WorldState) 
   by_helper MayRun m a = keeps_if P (nat_lt (given_number a 1) (length w.cpus)) w (with_fault w NoSuchCpu) h.same (h.faulty NoSuchCpu)
   by_helper f m a = h.same
 
--- ---- what is hidden
+-- ---- what is left out
 
-module _ (h : Hidden) where
+-- a query loads nothing that is left out
+abbrev pub IsShown : Omitted → Query → Type 0
+IsShown h (Load t f) = (is_hidden h.parts f ≡ false) × IfAny h.idle (is_slice (Some f) ≡ false)
+IsShown h q = Unit {0}
+
+less_than : (q n : ℕ) → q < n → (q == n) ≡ false
+less_than q n l = go (q == n) refl
+  where
+    go : (b : Bool) → (q == n) ≡ b → b ≡ false
+    go true e = let is = eqb-true q n e in absurd (omega (arith, is, l))
+    go false e = refl
+
+below_held : (q : ℕ) → nat_lt q policy_end ≡ true → (q == held_queue) ≡ false
+below_held q e = let l = ltb-true q policy_end e in less_than q held_queue (omega (arith, l))
+
+module _ (h : Omitted) where
   -- ---- inserts
 
-  may_same : (b : Callback) (w : WorldState) (t : Option ℕ) → may_insert_in b w t ≡ may_insert_in b (hide h w) t
+  may_same : (b : Callback) (w : WorldState) (t : Option ℕ) → may_insert_in b w t ≡ may_insert_in b (omit h w) t
   may_same callback.SelectCpu w None = refl
   may_same callback.SelectCpu w (Some t) = refl
   may_same callback.Enqueue w None = refl
@@ -133,27 +155,27 @@ module _ (h : Hidden) where
   may_same callback.Dispatch w (Some t) = refl
   may_same b w t = refl
 
-  go_same : (w : WorldState) (t c : Option ℕ) → may_go w t c ≡ may_go (hide h w) t c
+  go_same : (w : WorldState) (t c : Option ℕ) → may_go w t c ≡ may_go (omit h w) t c
   go_same w None None = refl
   go_same w None (Some c) = refl
   go_same w (Some t) None = refl
   go_same w (Some t) (Some c) = refl
 
-  fault_same : (w : WorldState) (t : Option ℕ) (i : Insert) (flags : ℕ) → insert_fault w t i flags ≡ insert_fault (hide h w) t i flags
+  fault_same : (w : WorldState) (t : Option ℕ) (i : Insert) (flags : ℕ) → insert_fault w t i flags ≡ insert_fault (omit h w) t i flags
   fault_same w t i flags =
       let found : Option Fault → Bool → Option Fault = λ o b. cond b (or_fault (flags_fault w flags) (or_fault (queue_fault w i.queue) (or_fault (rank_fault w i.queue i.rank) o))) (Some CannotInsert) in
       ap (found (placing_fault w t i.queue)) (may_same w.call.callback w t)
-      ∙ ap (λ (b : Bool). found (cond b None (Some NotAllowed)) (may_insert (hide h w) t)) (go_same w t (cpu_meant w i.queue))
+      ∙ ap (λ (b : Bool). found (cond b None (Some NotAllowed)) (may_insert (omit h w) t)) (go_same w t (cpu_meant w i.queue))
 
-  hides_release : (t : Option ℕ) (i : Insert) → Hides h (λ w. after_release w t i)
-  hides_release None i w = plain h w
-  hides_release (Some t) i w = ap (λ (v : WorldState). with_note (with_move v) (notes.Insert t i.queue)) (hides_enter h t i (after_leave w t))
+  hides_release : (t : Option ℕ) (i : Insert) → IfAny h.idle ((i.slice == 0) ≡ false) → Hides h (λ w. after_release w t i)
+  hides_release None i e w = plain h w
+  hides_release (Some t) i e w = ap (λ (v : WorldState). with_note (with_move v) (notes.Insert t i.queue)) (both h (λ v. after_leave v t) (λ v. after_enter v t i) (hides_leave h t) (hides_enter h t i (may_enter h.idle t i e)) w)
 
-  hides_inserted : (o : Option Fault) (t : Option ℕ) (i : Insert) → Hides h (λ w. insert_or_fault w o t i)
-  hides_inserted None t i w = alike_if (hide h) (is_dispatch w.call.callback) (is_dispatch w.call.callback) _ _ _ _ refl (hides_release t (for_cpu w.call.cpu i) w) (plain h (with_insert w i))
-  hides_inserted (Some f) t i w = plain h (with_fault w f)
+  hides_inserted : (o : Option Fault) (t : Option ℕ) (i : Insert) → IfAny h.idle ((i.slice == 0) ≡ false) → Hides h (λ w. insert_or_fault w o t i)
+  hides_inserted None t i e w = alike_if (omit h) (is_dispatch w.call.callback) (is_dispatch w.call.callback) _ _ _ _ refl (hides_release t (for_cpu w.call.cpu i) e w) (plain h (with_insert w i))
+  hides_inserted (Some f) t i e w = plain h (with_fault w f)
 
-  late_same : (w : WorldState) (t : Option ℕ) → is_late w t ≡ is_late (hide h w) t
+  late_same : (w : WorldState) (t : Option ℕ) → is_late w t ≡ is_late (omit h w) t
   late_same w None = refl
   late_same w (Some t) = refl
 
@@ -161,24 +183,34 @@ module _ (h : Hidden) where
   hides_late None w = plain h (with_move w)
   hides_late (Some f) w = plain h (with_fault w f)
 
-  hides_insert : (t : Option ℕ) (i : Insert) (flags : ℕ) → Hides h (λ w. after_insert w t i flags)
-  hides_insert t i flags w =
-      alike_if (hide h) (is_late w t) (is_late (hide h w) t) _ _ _ _ (late_same w t) (hides_late (flags_fault w flags) w)
-      (hides_inserted (insert_fault w t i flags) t i w
-      ∙ ap (λ (o : Option Fault). hide h (insert_or_fault (hide h w) o t i)) (fault_same w t i flags))
+  hides_insert : (t : Option ℕ) (i : Insert) (flags : ℕ) → IfAny h.idle ((i.slice == 0) ≡ false) → Hides h (λ w. after_insert w t i flags)
+  hides_insert t i flags e w =
+      alike_if (omit h) (is_late w t) (is_late (omit h w) t) _ _ _ _ (late_same w t) (hides_late (flags_fault w flags) w)
+      (hides_inserted (insert_fault w t i flags) t i e w
+      ∙ ap (λ (o : Option Fault). omit h (insert_or_fault (omit h w) o t i)) (fault_same w t i flags))
 
-  answers_insert : (w : WorldState) (t : Option ℕ) (i : Insert) (flags : ℕ) → insert_answer w t i flags ≡ insert_answer (hide h w) t i flags
+  answers_insert : (w : WorldState) (t : Option ℕ) (i : Insert) (flags : ℕ) → insert_answer w t i flags ≡ insert_answer (omit h w) t i flags
   answers_insert w t i flags =
       ap (λ (b : Bool). cond b (invalid_if (flags_fault w flags)) (invalid_if (insert_fault w t i flags))) (late_same w t)
-      ∙ ap (λ (o : Option Fault). cond (is_late (hide h w) t) (invalid_if (flags_fault w flags)) (invalid_if o)) (fault_same w t i flags)
+      ∙ ap (λ (o : Option Fault). cond (is_late (omit h w) t) (invalid_if (flags_fault w flags)) (invalid_if o)) (fault_same w t i flags)
 
   -- ---- other helpers
 
-  hides_moved : (o : Option ℕ) → Hides h (λ w. moved_to_local w o)
-  hides_moved None w = plain h w
-  hides_moved (Some t) w = ap (λ (v : WorldState). with_note (with_move v) (notes.Move t w.call.cpu)) (hides_local h w.call.cpu t (after_leave w t))
+  hides_moved : (o : Option ℕ) (w : WorldState) → ((t : ℕ) → o ≡ Some t → is_idle_of h.idle w t ≡ false) → Same h (moved_to_local w o) (moved_to_local (omit h w) o)
+  hides_moved None w busy = plain h w
+  hides_moved (Some t) w busy = ap (λ (v : WorldState). with_note (with_move v) (notes.Move t w.call.cpu)) (moved_on h w.call.cpu t w (busy t refl))
 
-  chosen : (o : Option ℕ) (w : WorldState) → choice_answer w o ≡ choice_answer (hide h w) o
+  -- a queue of the policy isn't that of held tasks
+  hides_moving : (q : ℕ) (w : WorldState) → Same h (if can_move w q then moved_to_local w (next_for w q w.call.cpu) else with_fault w NoSuchQueue) (if can_move w q then moved_to_local (omit h w) (next_for w q w.call.cpu) else with_fault (omit h w) NoSuchQueue)
+  hides_moving q w = go (is_dispatch w.call.callback) (nat_lt q policy_end) (exists w.queues q) refl
+    where
+      go : (a b c : Bool) → nat_lt q policy_end ≡ b → Same h (if a && (b && c) then moved_to_local w (next_for w q w.call.cpu) else with_fault w NoSuchQueue) (if a && (b && c) then moved_to_local (omit h w) (next_for w q w.call.cpu) else with_fault (omit h w) NoSuchQueue)
+      go true true true e = hides_moved (next_for w q w.call.cpu) w (λ t is. queued_busy h.idle w t q (below_held q e) (next_seen w q w.call.cpu t is).there)
+      go true true false e = plain h (with_fault w NoSuchQueue)
+      go true false c e = plain h (with_fault w NoSuchQueue)
+      go false b c e = plain h (with_fault w NoSuchQueue)
+
+  chosen : (o : Option ℕ) (w : WorldState) → choice_answer w o ≡ choice_answer (omit h w) o
   chosen None w = refl
   chosen (Some t) w = ap (λ (c : ℕ). unless_fault (untracked_fault w) c) (choice_same h w t)
 
@@ -192,9 +224,9 @@ module _ (h : Hidden) where
   hides_choice (Some t) w = hides_fault_or (untracked_fault w) (λ v. after_claim v (choice v t)) chooses w
     where
       chooses : Hides h (λ v. after_claim v (choice v t))
-      chooses v = hides_claim h (choice v t) v ∙ ap (λ (o : Option ℕ). hide h (after_claim (hide h v) o)) (chosen_same h v t)
+      chooses v = hides_claim h (choice v t) v ∙ ap (λ (o : Option ℕ). omit h (after_claim (omit h v) o)) (chosen_same h v t)
 
-  kick_same : (w : WorldState) (c : ℕ) (k : Option Kick) → kick_fault w c k ≡ kick_fault (hide h w) c k
+  kick_same : (w : WorldState) (c : ℕ) (k : Option Kick) → kick_fault w c k ≡ kick_fault (omit h w) c k
   kick_same w c None = refl
   kick_same w c (Some k) = refl
 
@@ -204,13 +236,13 @@ module _ (h : Hidden) where
   hides_kicked None c (Some Any) w = plain h (with_kick w c)
   hides_kicked None c (Some IfIdle) w =
       let b = is_none (running w c) || is_this c w.cycling in
-      alike_if (hide h) b b (with_kick w c) (with_kick (hide h w) c) w (hide h w) refl (plain h (with_kick w c)) (plain h w)
+      alike_if (omit h) b b (with_kick w c) (with_kick (omit h w) c) w (omit h w) refl (plain h (with_kick w c)) (plain h w)
   hides_kicked None c (Some Preempt) w = plain h (with_preemption w c)
 
   hides_kick : (c flags : ℕ) → Hides h (λ w. after_kick w c flags)
   hides_kick c flags w =
       let k = kick_of flags in
-      hides_kicked (kick_fault w c k) c k w ∙ ap (λ (o : Option Fault). hide h (kicked_or_fault (hide h w) o c k)) (kick_same w c k)
+      hides_kicked (kick_fault w c k) c k w ∙ ap (λ (o : Option Fault). omit h (kicked_or_fault (omit h w) o c k)) (kick_same w c k)
 
   hides_picked : (o : Option Fault) (c : Option ℕ) → Hides h (λ w. after_pick_by o w c)
   hides_picked None c w = hides_claim h c w
@@ -220,39 +252,39 @@ module _ (h : Hidden) where
   hides_pick mask flags w = hides_picked (pick_fault w flags) (first_free_in mask w) w
 
   -- the current task of each processor, and the processor of a task
-  current_in_same : (o : Option Switch) (w : WorldState) (c : ℕ) → current_in o w c ≡ current_in o (hide h w) c
+  current_in_same : (o : Option Switch) (w : WorldState) (c : ℕ) → current_in o w c ≡ current_in o (omit h w) c
   current_in_same None w c = refl
   current_in_same (Some s) w c = refl
 
-  current_at : (w : WorldState) (c : ℕ) → current w c ≡ current (hide h w) c
+  current_at : (w : WorldState) (c : ℕ) → current w c ≡ current (omit h w) c
   current_at w c = current_in_same w.passing.switching w c
 
-  any_current_same : (n t : ℕ) (w : WorldState) → any_below n (λ c. is_this t (current w c)) ≡ any_below n (λ c. is_this t (current (hide h w) c))
+  any_current_same : (n t : ℕ) (w : WorldState) → any_below n (λ c. is_this t (current w c)) ≡ any_below n (λ c. is_this t (current (omit h w) c))
   any_current_same zero t w = refl
   any_current_same (suc n) t w =
       ap (λ (b : Bool). b || is_this t (current w n)) (any_current_same n t w)
-      ∙ ap (λ (o : Option ℕ). any_below n (λ c. is_this t (current (hide h w) c)) || is_this t o) (current_at w n)
+      ∙ ap (λ (o : Option ℕ). any_below n (λ c. is_this t (current (omit h w) c)) || is_this t o) (current_at w n)
 
-  current_same : (o : Option ℕ) (w : WorldState) → is_current_one w o ≡ is_current_one (hide h w) o
+  current_same : (o : Option ℕ) (w : WorldState) → is_current_one w o ≡ is_current_one (omit h w) o
   current_same None w = refl
   current_same (Some t) w = any_current_same (length w.cpus) t w
 
-  cpu_same : (o : Option ℕ) (w : WorldState) → cpu_of_task w o ≡ cpu_of_task (hide h w) o
+  cpu_same : (o : Option ℕ) (w : WorldState) → cpu_of_task w o ≡ cpu_of_task (omit h w) o
   cpu_same None w = refl
-  cpu_same (Some t) w = read h (λ x. x.prev_cpu) (λ x. refl) w t
+  cpu_same (Some t) w = read h (λ x. x.prev_cpu) (λ x. refl) (λ x. refl) w t
 
-  there_same : (o : Option ℕ) (w : WorldState) (c : ℕ) → may_run_there w o c ≡ may_run_there (hide h w) o c
+  there_same : (o : Option ℕ) (w : WorldState) (c : ℕ) → may_run_there w o c ≡ may_run_there (omit h w) o c
   there_same None w c = refl
   there_same (Some t) w c = refl
 
   -- what it answers
-  helper_same : (f : Helper) (a : List Arg) (w : WorldState) → helper_answer w f a ≡ helper_answer (hide h w) f a
+  helper_same : (f : Helper) (a : List Arg) (w : WorldState) → helper_answer w f a ≡ helper_answer (omit h w) f a
   helper_same DsqInsert a w = ap answer.Num (answers_insert w (given_task a 0) (insert_of w a) (given_number a 3))
   helper_same DsqInsertVtime a w = ap answer.Num (answers_insert w (given_task a 0) (insert_of_vtime w a) (given_number a 4))
   helper_same KickCpu a w = ap (λ (o : Option Fault). answer.Num (invalid_if o)) (kick_same w (given_number a 0) (kick_of (given_number a 1)))
   helper_same SelectCpuDfl a w = ap answer.Num (chosen (given_task a 0) w)
   helper_same TaskByPid a w =
-      ap (λ (n : ℕ). cond (nat_lt 0 (given_number a 0) && nat_le (given_number a 0) n) (answer.Task (record { 0 = given_number a 0 - 1 })) (answer.Num 0)) (length_same h w.tasks)
+      ap (λ (n : ℕ). cond (nat_lt 0 (given_number a 0) && nat_le (given_number a 0) n) (answer.Task (record { 0 = given_number a 0 - 1 })) (answer.Num 0)) (length_same h.parts (is_idle_of h.idle w) w.tasks)
   helper_same CpuCurr a w =
       let c = given_number a 0 in
       ap (λ (o : Option ℕ). cond (nat_lt c (length w.cpus)) (task_or_null o) (answer.Num 0)) (current_at w c)
@@ -264,63 +296,149 @@ module _ (h : Hidden) where
   helper_same f a w = refl
 
   -- what it makes of the world
-  hides_helper : (f : Helper) (a : List Arg) → Hides h (λ w. helper_after w f a)
-  hides_helper CreateDsq a w = alike_if (hide h) (can_create w (given_number a 0)) (can_create w (given_number a 0)) _ _ _ _ refl (plain h (with_queues w (after_create w.queues (given_number a 0)))) (plain h (with_fault w CannotCreate))
-  hides_helper DsqInsert a w = hides_insert (given_task a 0) (insert_of w a) (given_number a 3) w
-  hides_helper DsqInsertVtime a w = hides_insert (given_task a 0) (insert_of_vtime w a) (given_number a 4) w
-  hides_helper DsqMoveToLocal a w =
-      let q = given_number a 0 in
-      alike_if (hide h) (can_move w q) (can_move w q) _ _ _ _ refl (hides_moved (next_for w q w.call.cpu) w) (plain h (with_fault w NoSuchQueue))
-  hides_helper CpuIdle a w = hides_fault_or (ask_fault w (given_number a 0)) (λ v. v) (λ v. plain h v) w
-  hides_helper DsqNrQueued a w = alike_if (hide h) (is_there w (given_number a 0)) (is_there w (given_number a 0)) w (hide h w) _ _ refl (plain h w) (plain h (with_fault w NoSuchQueue))
-  hides_helper SelectCpuDfl a w = hides_choice (given_task a 0) w
-  hides_helper KickCpu a w = hides_kick (given_number a 0) (given_number a 1) w
-  hides_helper Exit a w = plain h (after_exit w (given_number a 0))
-  hides_helper CpuCurr a w = alike_if (hide h) (nat_lt (given_number a 0) (length w.cpus)) (nat_lt (given_number a 0) (length w.cpus)) w (hide h w) _ _ refl (plain h w) (plain h (with_fault w NoSuchCpu))
-  hides_helper DsqPeek a w = alike_if (hide h) (is_there w (given_number a 0)) (is_there w (given_number a 0)) w (hide h w) _ _ refl (plain h w) (plain h (with_fault w NoSuchQueue))
-  hides_helper PickIdle a w = hides_pick (given_number a 0) (given_number a 1) w
-  hides_helper ClaimIdle a w =
+  hides_helper : (f : Helper) (a : List Arg) → IfAny h.idle (IsGivenSlice f a) → Hides h (λ w. helper_after w f a)
+  hides_helper CreateDsq a e w = alike_if (omit h) (can_create w (given_number a 0)) (can_create w (given_number a 0)) _ _ _ _ refl (hides_create h (given_number a 0) w) (plain h (with_fault w CannotCreate))
+  hides_helper DsqInsert a e w = hides_insert (given_task a 0) (insert_of w a) (given_number a 3) e w
+  hides_helper DsqInsertVtime a e w = hides_insert (given_task a 0) (insert_of_vtime w a) (given_number a 4) e w
+  hides_helper DsqMoveToLocal a e w = hides_moving (given_number a 0) w
+  hides_helper CpuIdle a e w = hides_fault_or (ask_fault w (given_number a 0)) (λ v. v) (λ v. plain h v) w
+  hides_helper DsqNrQueued a e w = alike_if (omit h) (is_there w (given_number a 0)) (is_there w (given_number a 0)) w (omit h w) _ _ refl (plain h w) (plain h (with_fault w NoSuchQueue))
+  hides_helper SelectCpuDfl a e w = hides_choice (given_task a 0) w
+  hides_helper KickCpu a e w = hides_kick (given_number a 0) (given_number a 1) w
+  hides_helper Exit a e w = plain h (after_exit w (given_number a 0))
+  hides_helper CpuCurr a e w = alike_if (omit h) (nat_lt (given_number a 0) (length w.cpus)) (nat_lt (given_number a 0) (length w.cpus)) w (omit h w) _ _ refl (plain h w) (plain h (with_fault w NoSuchCpu))
+  hides_helper DsqPeek a e w = alike_if (omit h) (is_there w (given_number a 0)) (is_there w (given_number a 0)) w (omit h w) _ _ refl (plain h w) (plain h (with_fault w NoSuchQueue))
+  hides_helper PickIdle a e w = hides_pick (given_number a 0) (given_number a 1) w
+  hides_helper ClaimIdle a e w =
       let c = given_number a 0 in
       hides_fault_or (ask_fault w c) (λ v. after_claim v (this_if (is_free v c) c)) (λ v. hides_claim h (this_if (is_free v c) c) v) w
-  hides_helper TimerStart a w =
+  hides_helper TimerStart a e w =
       let n = given_number a 0 in
       hides_fault_or (timer_fault w n) (λ v. with_timer v n (Some (alarm_in v (given_number a 1)))) (λ v. plain h (with_timer v n (Some (alarm_in v (given_number a 1))))) w
-  hides_helper TimerCancel a w =
+  hides_helper TimerCancel a e w =
       let n = given_number a 0 in
       hides_fault_or (timer_fault w n) (λ v. if is_this n v.passing.timer then v else with_timer v n None)
-      (λ v. alike_if (hide h) (is_this n v.passing.timer) (is_this n v.passing.timer) v (hide h v) (with_timer v n None) (with_timer (hide h v) n None) refl (plain h v) (plain h (with_timer v n None))) w
-  hides_helper PrandomU32 a w = plain h (after_random w)
-  hides_helper MayRun a w = alike_if (hide h) (nat_lt (given_number a 1) (length w.cpus)) (nat_lt (given_number a 1) (length w.cpus)) w (hide h w) _ _ refl (plain h w) (plain h (with_fault w NoSuchCpu))
-  hides_helper f a w = plain h w
+      (λ v. alike_if (omit h) (is_this n v.passing.timer) (is_this n v.passing.timer) v (omit h v) (with_timer v n None) (with_timer (omit h v) n None) refl (plain h v) (plain h (with_timer v n None))) w
+  hides_helper PrandomU32 a e w = plain h (after_random w)
+  hides_helper MayRun a e w = alike_if (omit h) (nat_lt (given_number a 1) (length w.cpus)) (nat_lt (given_number a 1) (length w.cpus)) w (omit h w) _ _ refl (plain h w) (plain h (with_fault w NoSuchCpu))
+  hides_helper f a e w = plain h w
 
   -- ---- queries
-
-  -- a field that is loaded isn't hidden
-  abbrev pub IsOpen : Query → Type 0
-  IsOpen (Load t f) = is_hidden h f ≡ false
-  IsOpen q = Unit {0}
 
   shown : (b : Bool) (n : ℕ) → b ≡ false → n ≡ cond b 0 n
   shown b n e = ap (λ (c : Bool). cond c 0 n) (sym e)
 
-  field_same : (f : Field) (t : ℕ) (w : WorldState) → is_hidden h f ≡ false → field_of w t f ≡ field_of (hide h w) t f
-  field_same Pid t w e = refl
-  field_same Weight t w e = ap (λ (n : ℕ). cond (is_by_linux w) (own_weight w.tree t) n) (weight_same h w t)
-  field_same Slice t w e = read h (λ x. x.slice) (λ x. refl) w t
-  field_same DsqVtime t w e = read h (λ x. x.vtime) (λ x. shown h.vtime x.vtime e) w t
-  field_same PrevCpu t w e = read h (λ x. x.prev_cpu) (λ x. refl) w t
-  field_same Group t w e = group_same h w t
-  field_same Cpus t w e = refl
-  field_same RunNs t w e = read h (λ x. x.run_ns) (λ x. shown h.run_ns x.run_ns e) w t
+  field_same : (f : Field) (t : ℕ) (w : WorldState) → is_hidden h.parts f ≡ false → IfAny h.idle (is_slice (Some f) ≡ false) → field_of w t f ≡ field_of (omit h w) t f
+  field_same Pid t w e any = refl
+  field_same Weight t w e any = ap (λ (n : ℕ). cond (is_by_linux w) (own_weight w.tree t) n) (weight_same h w t)
+  field_same Slice t w e (inl none) = read_busy h (λ x. x.slice) (λ x. refl) w t (out_busy h.idle w t (none t))
+  field_same Slice t w e (inr k) = absurd (bits true refl k)
+  field_same DsqVtime t w e any = read h (λ x. x.vtime) (λ x. shown h.parts.vtime x.vtime e) (λ x. refl) w t
+  field_same PrevCpu t w e any = read h (λ x. x.prev_cpu) (λ x. refl) (λ x. refl) w t
+  field_same Group t w e any = group_same h w t
+  field_same Cpus t w e any = refl
+  field_same RunNs t w e any = read h (λ x. x.run_ns) (λ x. shown h.parts.run_ns x.run_ns e) (λ x. refl) w t
 
-  -- what a query is answered that reads nothing hidden
-  pub answer_same : (q : Query) (w : WorldState) → IsOpen q → answer_to world_functions w q ≡ answer_to world_functions (hide h w) q
+  -- what a query is answered that loads nothing left out
+  pub answer_same : (q : Query) (w : WorldState) → IsShown h q → answer_to world_functions w q ≡ answer_to world_functions (omit h w) q
   answer_same (Call f a) w e = ap answer_value (helper_same f (map argument_of a) w)
-  answer_same (Load t f) w e = ap Number (field_same f t.0 w e)
+  answer_same (Load t f) w e = ap Number (field_same f t.0 w e.0 e.1)
   answer_same (Store t f n) w e = refl
 
-  -- and what any query makes of the world
-  pub hides_query : (q : Query) → Hides h (λ w. after_query world_functions w q)
-  hides_query (Call f a) w = hides_helper f (map argument_of a) w
-  hides_query (Load t f) w = plain h w
-  hides_query (Store t f n) w = set_task h (λ x. stored_in x f n) (keeps_store h f n) w t.0
+  -- and what one makes of the world that gives each task a slice which it inserts
+  pub hides_query : (q : Query) → IfAny h.idle (GivesOne q) → Hides h (λ w. after_query world_functions w q)
+  hides_query (Call f a) e w = hides_helper f (map argument_of a) e w
+  hides_query (Load t f) e w = plain h w
+  hides_query (Store t f n) e w = set_task h (λ x. stored_in x f n) (keeps_store h.parts f n) (sliceless_store f n) w t.0
+
+-- ---- what is inserted has a slice
+
+-- what a callback wants has a slice, if it wants an insert
+abbrev pub Wants : Option Insert → Type 0
+Wants None = Unit {0}
+Wants (Some i) = (i.slice == 0) ≡ false
+
+abbrev WantsIn : WorldState → Type 0
+WantsIn w = Wants w.call.insert
+
+-- the helper inserts nothing
+abbrev InsertsNone : Helper → Type 0
+InsertsNone DsqInsert = ⊥
+InsertsNone DsqInsertVtime = ⊥
+InsertsNone f = Unit {0}
+
+-- a task's processor is another
+pub wants_homed : (w : WorldState) (t c : ℕ) → WantsIn w → WantsIn (homed w t c)
+wants_homed w t c h = keeps_if WantsIn (is_by_linux w) (with_task w t (with_home (task_at w t) c)) w h h
+
+wants_homed_at : (w : WorldState) (t : ℕ) (o : Option ℕ) → WantsIn w → WantsIn (homed_at w t o)
+wants_homed_at w t None h = h
+wants_homed_at w t (Some c) h = wants_homed w t c h
+
+wants_preempt_of : (w : WorldState) (c : ℕ) (o : Option ℕ) → WantsIn w → WantsIn (after_preempt_of w c o)
+wants_preempt_of w c None h = h
+wants_preempt_of w c (Some t) h = keeps_if WantsIn (is_this c w.cycling) w (with_kick (with_task w t (with_slice (task_at w t) 0)) c) h h
+
+wants_preempt_at : (w : WorldState) (o : Option ℕ) → WantsIn w → WantsIn (after_preempt_at w o)
+wants_preempt_at w None h = h
+wants_preempt_at w (Some c) h = wants_preempt_of w c (running w c) h
+
+wants_entered : (w : WorldState) (t : ℕ) (i : Insert) → WantsIn w → WantsIn (after_enter w t i)
+wants_entered w t i h =
+    let given = with_queues (with_task w t (task_after_insert (task_at w t) i)) (after_push w.queues i.queue t (rank_by w i.rank)) in
+    let home = homed_at given t (local_cpu w i.queue) in
+    keeps_if WantsIn (nat_lt t (length w.tasks)) (after_preempt home i) w
+    (keeps_if WantsIn i.preempts (after_preempt_at home (local_cpu home i.queue)) home (wants_preempt_at home (local_cpu home i.queue) (wants_homed_at given t (local_cpu w i.queue) h)) (wants_homed_at given t (local_cpu w i.queue) h)) h
+
+wants_released : (w : WorldState) (t : Option ℕ) (i : Insert) → WantsIn w → WantsIn (after_release w t i)
+wants_released w None i h = h
+wants_released w (Some t) i h = wants_entered (after_leave w t) t i h
+
+wants_inserted : (w : WorldState) (o : Option Fault) (t : Option ℕ) (i : Insert) → (i.slice == 0) ≡ false → WantsIn w → WantsIn (insert_or_fault w o t i)
+wants_inserted w None t i e h = keeps_if WantsIn (is_dispatch w.call.callback) (after_release w t (for_cpu w.call.cpu i)) (with_insert w i) (wants_released w t (for_cpu w.call.cpu i) h) e
+wants_inserted w (Some f) t i e h = h
+
+wants_late : (w : WorldState) (o : Option Fault) → WantsIn w → WantsIn (after_late w o)
+wants_late w None h = h
+wants_late w (Some f) h = h
+
+wants_insert : (w : WorldState) (t : Option ℕ) (i : Insert) (flags : ℕ) → (i.slice == 0) ≡ false → WantsIn w → WantsIn (after_insert w t i flags)
+wants_insert w t i flags e h =
+    keeps_if WantsIn (is_late w t) (after_late w (flags_fault w flags)) (insert_or_fault w (insert_fault w t i flags) t i) (wants_late w (flags_fault w flags) h) (wants_inserted w (insert_fault w t i flags) t i e h)
+
+wants_moved : (w : WorldState) (o : Option ℕ) → WantsIn w → WantsIn (moved_to_local w o)
+wants_moved w None h = h
+wants_moved w (Some t) h = wants_homed (with_queues w (after_push (after_remove w.queues t) (local_on w.call.cpu) t Fifo)) t w.call.cpu h
+
+-- a processor is claimed
+pub wants_claimed : (w : WorldState) (o : Option ℕ) → WantsIn w → WantsIn (after_claim w o)
+wants_claimed w None h = h
+wants_claimed w (Some c) h = keeps_if WantsIn (is_by_linux w) (record w { claimed = and_cpu w.claimed c; call = record w.call { claims = and_cpu w.call.claims c } }) w h h
+
+wants_other : (w : WorldState) (f : Helper) (a : List Arg) → InsertsNone f → WantsIn w → WantsIn (helper_after w f a)
+wants_other w f a none h = by_helper InsertsNone WantsIn w (record {
+  same = h;
+  faulty = λ x. h;
+  ended = λ n. h;
+  created = λ may q. h;
+  inserted = λ may t i fifo. absurd may;
+  by_vtime = λ may t i. absurd may;
+  late = h;
+  moved = λ o. wants_moved w o h;
+  claimed = λ o. wants_claimed w o h;
+  kicked = λ c. h;
+  preempted = λ c. h;
+  timed = λ n o. h;
+  drawn = λ may. h;
+}) f none a
+
+inserts_or_not : (f : Helper) → ((a : List Arg) (w : WorldState) → IsGivenSlice f a → WantsIn w → WantsIn (helper_after w f a)) ⊎ InsertsNone f
+inserts_or_not DsqInsert = inl (λ a w e h. wants_insert w (given_task a 0) (insert_of w a) (given_number a 3) e h)
+inserts_or_not DsqInsertVtime = inl (λ a w e h. wants_insert w (given_task a 0) (insert_of_vtime w a) (given_number a 4) e h)
+inserts_or_not f = inr tt
+
+-- so it is after a query that gives each task a slice which it inserts
+pub wants_query : (w : WorldState) (q : Query) → GivesOne q → Wants w.call.insert → Wants (after_query world_functions w q).call.insert
+wants_query w (Call f a) e h = ⊎_elim (λ by. by (map argument_of a) w e h) (λ none. wants_other w f (map argument_of a) none h) (inserts_or_not f)
+wants_query w (Load t f) e h = h
+wants_query w (Store t f n) e h = h

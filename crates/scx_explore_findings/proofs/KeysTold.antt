@@ -1,5 +1,5 @@
 -- The words of the part of a map beside its elements tell it.
-use Rattle.std.proofs.Common.{◌≡◌, ℕ, zero, suc, ◌+◌, ◌-◌, ◌/◌, ◌<◌, ◌≤◌, ◌==◌, nat_lt, Bool, true, false, cond, List, [], ◌∷◌, ◌++◌, length, map, drop, get_or, count_by, Option, Some, None, ◌⊎◌, inl, inr, refl, sym, ap, ◌∙◌, subst, arith, ⊎_elim}
+use Rattle.std.proofs.Common.{◌≡◌, ℕ, zero, suc, ◌+◌, ◌/◌, ◌<◌, ◌≤◌, ◌==◌, nat_lt, Bool, true, false, cond, List, [], ◌∷◌, ◌++◌, length, map, drop, get_or, count_by, Option, Some, None, ◌⊎◌, inl, inr, refl, sym, ap, ◌∙◌, subst, arith, ⊎_elim}
 use Rattle.std.specs.Prelude.{slice_get}
 use Rattle.std.proofs.lemmas.Bool.{cases_lt, lt-ltb, le-ltb, eqb-true, eq-eqb}
 use Rattle.std.proofs.lemmas.List.{length-append, length-map, ext_get_or}
@@ -51,14 +51,16 @@ abbrev IsOne : Option ℕ → Type 0
 IsOne None = ⊥
 IsOne (Some t) = Unit {0}
 
-none_isnt_one : (t : ℕ) → None ≡ Some t → ⊥
+-- none is not some
+pub none_isnt_one : (t : ℕ) → None ≡ Some t → ⊥
 none_isnt_one t e = subst IsOne (sym e) tt
 
 or_that : ℕ → Option ℕ → ℕ
 or_that a None = a
 or_that a (Some x) = x
 
-some_same : (a b : ℕ) → Some a ≡ Some b → a ≡ b
+-- the same options are of the same number
+pub some_same : (a b : ℕ) → Some a ≡ Some b → a ≡ b
 unfolding or_that
 some_same a b e = ap (λ (o : Option ℕ). or_that a o) e
 

@@ -1,4 +1,7 @@
 pub mod Records
+pub mod IdleRecords
+mod Omitting
+mod IdleTasks
 pub mod Worlds
 pub mod Queries
 pub mod Helpers
@@ -16,6 +19,8 @@ pub mod PoolCopies
 pub mod Steps
 pub mod Cycles
 pub mod Events
+mod AnyRounds
+mod LeftOut
 pub mod Machines
 pub mod Words
 pub mod Near
@@ -51,6 +56,7 @@ pub mod DelayedCycles
 pub mod DelayedEvents
 pub mod DelayedMachines
 pub mod UnusedGroups
+mod GivenSlices
 pub mod SameTold
 pub mod QueueWalk
 pub mod Led

@@ -1,43 +1,40 @@
--- Two machines that are the same but for hidden parts answer events alike.
-use Rattle.std.proofs.Common.{◌≡◌, ℕ, ◌+◌, ◌==◌, Bool, true, false, cond, List, [], ◌∷◌, ◌++◌, map, Option, Some, None, refl, sym, ap, ◌∙◌, subst}
+-- Two machines that are the same but for what is left out answer events alike.
+use Rattle.std.proofs.Common.{◌≡◌, ℕ, ◌+◌, ◌==◌, Bool, true, false, cond, List, [], ◌∷◌, ◌++◌, map, Option, Some, None, refl, sym, ap, ◌∙◌, subst, inl, inr}
 use Rattle.scx_sched_world.specs.declared.notes.Note.{Note}
 use Rattle.scx_sched_machine.specs.declared.events.Event.{Event}
 use Rattle.scx_sched_machine.specs.declared.events.Refused.{Refused}
 use Rattle.scx_sched_machine.specs.declared.events.Refused.TheVariants.{RunOver}
+use Rattle.scx_sched_machine.specs.Policy.{program_of}
 use Rattle.scx_sched_machine.specs.Steps.{State, Stepped}
 use Rattle.scx_sched_machine.specs.Events.{event_step}
 use Rattle.scx_sched.specs.Sim.{SimState, max_events, refusal, stepped_if, after_event, notes_if, notes_of, calls_if, calls_of}
 use Rattle.scx_load_driver.specs.Runs.{notes_of_all}
 use Rattle.scx_explore_findings.specs.Hidden.{Hidden}
-use Rattle.scx_explore_findings.specs.HiddenStates.{hide_state, hide_call, late_in}
-use Rattle.scx_explore_findings.specs.HiddenMachines.{hide_machine, AreSame, AreUnread, AreAsLate}
+use Rattle.scx_explore_findings.specs.HiddenStates.{late_in}
+use Rattle.scx_explore_findings.specs.HiddenMachines.{AreSame, AreUnread, AreAsLate, AnswersAlike}
 use Rattle.scx_explore_findings.specs.HiddenLaws.{EventsDontDepend, ListsDontDepend}
-use Rattle.scx_explore_findings.proofs.Steps.{Passes}
-use Rattle.scx_explore_findings.proofs.Events.{refusal_same, passes_event, late_same}
+use Rattle.scx_explore_findings.specs.IdleSlices.{any_task, EventsTellNoIdleSlices}
+use Rattle.scx_explore_findings.proofs.Omitting.{Omitted, omit_state, omit_call}
+use Rattle.scx_explore_findings.proofs.Steps.{TellNothing, Passes}
+use Rattle.scx_explore_findings.proofs.Events.{late_same}
+use Rattle.scx_explore_findings.proofs.AnyRounds.{refusal_same, passes_event}
+use Rattle.scx_explore_findings.proofs.LeftOut.{omit_machine, parts_alone, parts_machine, parts_same, parts_calls, slices_alone, slices_machine, slices_same, slices_unread}
 
-module _ (h : Hidden) where
-  refusal_is : (s : SimState) (e : Event) → refusal s e ≡ refusal (hide_machine h s) e
+-- ---- whatever is left out
+
+module _ (h : Omitted) where
+  refusal_is : (s : SimState) (e : Event) → refusal s e ≡ refusal (omit_machine h s) e
   refusal_is s e = ap (λ (o : Option Refused). cond (s.events == max_events) (Some RunOver) o) (refusal_same h s.state e)
 
-  module _ (s t : SimState) (same : AreSame h s t) (e : Event) where
+  module _ (s t : SimState) (same : omit_machine h s ≡ omit_machine h t) (e : Event) where
     -- an event is refused for the same cause in both
-    pub refusal_there : refusal s e ≡ refusal t e
+    refusal_there : refusal s e ≡ refusal t e
     refusal_there = refusal_is s e ∙ ap (λ (x : SimState). refusal x e) same ∙ sym (refusal_is t e)
 
-    module _ (unread : AreUnread h s.state.policy) (late : AreAsLate h s t e) where
-      state : hide_state h s.state ≡ hide_state h t.state
-      state = ap (λ (x : SimState). x.state) same
-
-      late_there : late_in s.state e ≡ late_in t.state e
-      late_there = go h.waits refl
-        where
-          go : (b : Bool) → h.waits ≡ b → late_in s.state e ≡ late_in t.state e
-          go true hidden = late hidden
-          go false shown = late_same h s.state.policy unread shown e s.state t.state state refl
-
+    module _ (tells : TellNothing h s.state.policy) (late : late_in s.state e ≡ late_in t.state e) where
       -- the step of an accepted event
       accepted_is : Passes h s.state.policy (event_step s.state e) (event_step t.state e)
-      accepted_is = passes_event h s.state.policy unread e s.state t.state state refl late_there
+      accepted_is = passes_event h s.state.policy tells e s.state t.state (ap (λ (x : SimState). x.state) same) refl late
 
       -- an event keeps the policy
       policy_after : (after_event s e).state.policy ≡ s.state.policy
@@ -47,23 +44,19 @@ module _ (h : Hidden) where
           go None = accepted_is.1
           go (Some r) = refl
 
-      -- so what no program reads, none reads after the event
-      pub unread_after : AreUnread h (after_event s e).state.policy
-      unread_after = subst (AreUnread h) (sym policy_after) unread
-
       -- the machines after the event are the same again
-      pub after_there : AreSame h (after_event s e) (after_event t e)
-      after_there = go (refusal s e) ∙ ap (λ (o : Option Refused). hide_machine h (stepped_if o t e)) refusal_there
+      after_there : omit_machine h (after_event s e) ≡ omit_machine h (after_event t e)
+      after_there = go (refusal s e) ∙ ap (λ (o : Option Refused). omit_machine h (stepped_if o t e)) refusal_there
         where
           of_parts : State → ℕ → SimState
           of_parts x n = record { state = x; events = n }
 
-          go : (o : Option Refused) → AreSame h (stepped_if o s e) (stepped_if o t e)
-          go None = ap (λ (r : Stepped). of_parts r.state (s.events + 1)) accepted_is.0 ∙ ap (λ (x : SimState). of_parts (hide_state h (event_step t.state e).state) (x.events + 1)) same
+          go : (o : Option Refused) → omit_machine h (stepped_if o s e) ≡ omit_machine h (stepped_if o t e)
+          go None = ap (λ (r : Stepped). of_parts r.state (s.events + 1)) accepted_is.0 ∙ ap (λ (x : SimState). of_parts (omit_state h (event_step t.state e).state) (x.events + 1)) same
           go (Some r) = same
 
       -- the same is noted
-      pub notes_there : notes_of s e ≡ notes_of t e
+      notes_there : notes_of s e ≡ notes_of t e
       notes_there = go (refusal s e) ∙ ap (λ (o : Option Refused). notes_if o t e) refusal_there
         where
           go : (o : Option Refused) → notes_if o s e ≡ notes_if o t e
@@ -71,29 +64,68 @@ module _ (h : Hidden) where
           go (Some r) = refl
 
       -- the same callbacks are called
-      pub calls_there : map (hide_call h) (calls_of s e) ≡ map (hide_call h) (calls_of t e)
-      calls_there = go (refusal s e) ∙ ap (λ (o : Option Refused). map (hide_call h) (calls_if o t e)) refusal_there
+      calls_there : map (omit_call h) (calls_of s e) ≡ map (omit_call h) (calls_of t e)
+      calls_there = go (refusal s e) ∙ ap (λ (o : Option Refused). map (omit_call h) (calls_if o t e)) refusal_there
         where
-          go : (o : Option Refused) → map (hide_call h) (calls_if o s e) ≡ map (hide_call h) (calls_if o t e)
+          go : (o : Option Refused) → map (omit_call h) (calls_if o s e) ≡ map (omit_call h) (calls_if o t e)
           go None = ap (λ (r : Stepped). r.calls) accepted_is.0
           go (Some r) = refl
 
+-- ---- parts of records
+
+module _ (h : Hidden) (s t : SimState) (e : Event) (unread : AreUnread h s.state.policy) (same : AreSame h s t) (late : AreAsLate h s t e) where
+  alike : omit_machine (parts_alone h) s ≡ omit_machine (parts_alone h) t
+  alike = parts_same h s t same
+
+  parts_told : TellNothing (parts_alone h) s.state.policy
+  parts_told = record { unread = unread; told = inl (λ u. refl) }
+
+  late_there : late_in s.state e ≡ late_in t.state e
+  late_there = go h.waits refl
+    where
+      go : (b : Bool) → h.waits ≡ b → late_in s.state e ≡ late_in t.state e
+      go true hidden = late hidden
+      go false shown = late_same (parts_alone h) s.state.policy parts_told shown e s.state t.state (ap (λ (x : SimState). x.state) alike) refl
+
+  -- what no program reads, none reads after the event
+  unread_after : AreUnread h (after_event s e).state.policy
+  unread_after = subst (AreUnread h) (sym (policy_after (parts_alone h) s t alike e parts_told late_there)) unread
+
+  -- so an event is answered alike
+  answers : AnswersAlike h s t e
+  answers = record {
+    refusal = refusal_there (parts_alone h) s t alike e;
+    notes = notes_there (parts_alone h) s t alike e parts_told late_there;
+    calls = sym (parts_calls h (calls_of s e)) ∙ calls_there (parts_alone h) s t alike e parts_told late_there ∙ parts_calls h (calls_of t e);
+    after = sym (parts_machine h (after_event s e)) ∙ after_there (parts_alone h) s t alike e parts_told late_there ∙ parts_machine h (after_event t e);
+  }
+
 -- two machines that are the same but for what is hidden answer an event alike
 pub events_dont_depend : EventsDontDepend
-events_dont_depend h s t e unread same late = record {
-  refusal = refusal_there h s t same e;
-  notes = notes_there h s t same e unread late;
-  calls = calls_there h s t same e unread late;
-  after = after_there h s t same e unread late;
-}
+events_dont_depend h s t e unread same late = answers h s t e unread same late
 
 -- and a list of events
 pub lists_dont_depend : ListsDontDepend
 lists_dont_depend h s t [] unread same late = record { accepted = λ all. all; notes = refl; after = same }
 lists_dont_depend h s t (e ∷ es) unread same late =
-    let more = lists_dont_depend h (after_event s e) (after_event t e) es (unread_after h s t same e unread late.0) (after_there h s t same e unread late.0) late.1 in
+    let one = answers h s t e unread same late.0 in
+    let more = lists_dont_depend h (after_event s e) (after_event t e) es (unread_after h s t e unread same late.0) one.after late.1 in
     record {
-      accepted = λ all. (sym (refusal_there h s t same e) ∙ all.0, more.accepted all.1);
-      notes = ap (λ (ns : List Note). ns ++ notes_of_all (after_event s e) es) (notes_there h s t same e unread late.0) ∙ ap (λ (ns : List Note). notes_of t e ++ ns) more.notes;
+      accepted = λ all. (sym one.refusal ∙ all.0, more.accepted all.1);
+      notes = ap (λ (ns : List Note). ns ++ notes_of_all (after_event s e) es) one.notes ∙ ap (λ (ns : List Note). notes_of t e ++ ns) more.notes;
       after = more.after;
+    }
+
+-- ---- slices
+
+-- under a policy that tells no slices two machines that are the same but for slices of idle tasks answer an event alike
+pub events_tell_no_idle_slices : EventsTellNoIdleSlices
+events_tell_no_idle_slices s t e tells same =
+    let h = slices_alone any_task in
+    let alike = slices_same any_task s t same in
+    let told : TellNothing h s.state.policy = record { unread = λ b. slices_unread any_task (program_of s.state.policy b); told = inr tells } in
+    let late = late_same h s.state.policy told refl e s.state t.state (ap (λ (x : SimState). x.state) alike) refl in
+    record {
+      refusal = refusal_there h s t alike e;
+      after = sym (slices_machine any_task (after_event s e)) ∙ after_there h s t alike e told late ∙ slices_machine any_task (after_event t e);
     }

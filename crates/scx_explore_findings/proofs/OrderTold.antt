@@ -108,11 +108,12 @@ one_leads p q same apart =
 -- ---- eight tasks
 
 -- where each of the first eight tasks waits
-abbrev eight_of : QueueState → List (Option Entry)
+abbrev pub eight_of : QueueState → List (Option Entry)
 eight_of s =
     entry_of s 0 ∷ entry_of s 1 ∷ entry_of s 2 ∷ entry_of s 3 ∷ entry_of s 4 ∷ entry_of s 5 ∷ entry_of s 6 ∷ entry_of s 7 ∷ []
 
-at_eight : (s : QueueState) (k : ℕ) → k < 8 → get_or (eight_of s) k None ≡ entry_of s k
+-- an entry of that list is that of the task
+pub at_eight : (s : QueueState) (k : ℕ) → k < 8 → get_or (eight_of s) k None ≡ entry_of s k
 at_eight s zero l = refl
 at_eight s (suc zero) l = refl
 at_eight s (suc (suc zero)) l = refl

@@ -169,7 +169,7 @@ module _ (Q : QueueState → Type 0) (k : IsKeptByQueues Q) where
     faulty = λ x. h;
     ended = λ n. h;
     created = λ may q. absurd (apart (is_allowed CreateDsq e) may barred);
-    inserted = λ t i fifo. of_inserted w None t i h;
+    inserted = λ may t i fifo. of_inserted w None t i h;
     by_vtime = λ may t i. of_inserted w None t i h;
     late = h;
     moved = λ o. of_moved w o h;

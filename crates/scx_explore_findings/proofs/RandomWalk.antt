@@ -17,7 +17,7 @@ use Rattle.scx_sched_world.specs.declared.eject.Eject.{Eject}
 use Rattle.scx_sched_world.specs.declared.faults.Fault.{Fault}
 use Rattle.scx_sched_world.specs.declared.notes.Note.{Note}
 use Rattle.scx_sched_world.specs.World.{WorldState, at_callback}
-use Rattle.scx_sched_world.specs.Tasks.{after_leave, homed, for_cpu, to_front}
+use Rattle.scx_sched_world.specs.Tasks.{after_leave, for_cpu, to_front}
 use Rattle.scx_sched_world.specs.Ejecting.{put_out, after_evictions}
 use Rattle.scx_sched_world.specs.Helpers.{is_dispatch, with_insert, after_release, insert_or_fault, moved_to_local, helper_after, world_functions}
 use Rattle.scx_sched_machine.specs.declared.events.Event.{Event}
@@ -70,7 +70,7 @@ module _ (r : ℕ) where
     faulty = λ x. h;
     ended = λ n. h;
     created = λ may q. h;
-    inserted = λ t i fifo. drawn_inserted w None t i h;
+    inserted = λ may t i fifo. drawn_inserted w None t i h;
     by_vtime = λ may t i. drawn_inserted w None t i h;
     late = h;
     moved = λ o. drawn_moved w o h;

@@ -10,22 +10,7 @@ use Rattle.scx_dsq.specs.Queues.{entry_of}
 use Rattle.scx_sched_world.specs.World.{WorldState, is_this, is_runnable, cpu_of}
 use Rattle.scx_sched.specs.Once.{runs, IsOnce}
 use Rattle.scx_explore_findings.proofs.CpusTold.{RunOnce}
-
--- some is one
-abbrev IsOne : Option ℕ → Type 0
-IsOne None = ⊥
-IsOne (Some t) = Unit {0}
-
-none_isnt_one : (t : ℕ) → None ≡ Some t → ⊥
-none_isnt_one t e = subst IsOne (sym e) tt
-
-or_that : ℕ → Option ℕ → ℕ
-or_that a None = a
-or_that a (Some x) = x
-
-some_same : (a b : ℕ) → Some a ≡ Some b → a ≡ b
-unfolding or_that
-some_same a b e = ap (λ (o : Option ℕ). or_that a o) e
+use Rattle.scx_explore_findings.proofs.KeysTold.{none_isnt_one, some_same}
 
 -- true is so
 abbrev IsSo : Bool → Type 0

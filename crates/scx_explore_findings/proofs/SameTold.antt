@@ -1,12 +1,12 @@
 -- Two machines that are written as the same words, by a form that keeps everything, are the same but for unread parts, once one is as late as the other.
-use Rattle.std.proofs.Common.{◌≡◌, ℕ, zero, suc, ◌+◌, ◌%◌, ◌<◌, ◌≤◌, ◌||◌, Bool, true, false, not, cond, List, [], ◌∷◌, length, map, drop, get_or, Option, Some, None, is_some, refl, sym, ap, ◌∙◌, subst, arith, ⊎_elim}
+use Rattle.std.proofs.Common.{◌≡◌, ℕ, zero, suc, ◌+◌, ◌%◌, ◌<◌, ◌≤◌, ◌==◌, ◌&&◌, ◌||◌, if◌then◌else◌, Bool, true, false, not, cond, List, [], ◌∷◌, length, map, drop, get_or, Option, Some, None, is_some, refl, sym, ap, ◌∙◌, subst, arith, ⊎_elim}
 use Rattle.std.specs.Prelude.{min, IfSome, option_map}
-use Rattle.std.proofs.lemmas.Bool.{cases_lt}
+use Rattle.std.proofs.lemmas.Bool.{cases_lt, eqb-true}
 use Rattle.std.proofs.lemmas.List.{length-append, ext_get_or}
 use Rattle.std.proofs.lemmas.List.Elements.{All-get_or}
 use Rattle.scx_dsq.specs.declared.entries.Entry.{Entry}
 use Rattle.scx_dsq.specs.Laws as queues
-use Rattle.scx_dsq.specs.Queues.{QueueState, entry_of}
+use Rattle.scx_dsq.specs.Queues.{entry_of}
 use Rattle.scx_maps.specs.declared.shape.Shape.{Shape}
 use Rattle.scx_weights.specs.declared.group.Group.{Group}
 use Rattle.scx_weights.specs.Hierarchy.{Hierarchy}
@@ -16,8 +16,9 @@ use Rattle.scx_sched_tasks.specs.Tasks.{no_task}
 use Rattle.scx_sched_tasks.specs.Waits.{time_since}
 use Rattle.scx_sched_world.specs.declared.notes.Note.{Note}
 use Rattle.scx_sched_world.specs.declared.timers.Alarm.{Alarm}
-use Rattle.scx_sched_world.specs.World.{WorldState, are_linux, nothing_passes, task_at, waits, waits_in, wait, is_this, cpu_of}
-use Rattle.scx_sched.specs.Once.{IsSound}
+use Rattle.scx_sched_world.specs.World.{WorldState, are_linux, nothing_passes, task_at, waits_in, wait, is_this, cpu_of}
+use Rattle.scx_sched_world.specs.Tasks.{with_slice}
+use Rattle.scx_sched.specs.Once.{IsOnce, IsSound}
 use Rattle.scx_sched.specs.Ranges.{IsFresh}
 use Rattle.scx_sched.specs.Sim.{SimState}
 use Rattle.scx_explore_states.specs.declared.form.Form.{Form}
@@ -29,14 +30,18 @@ use Rattle.scx_explore_states.proofs.Telling.{words_tell}
 use Rattle.scx_explore_findings.specs.Between.{IsQuiet}
 use Rattle.scx_explore_findings.specs.Delayed.{later_by, delayed_task, delayed_alarm, delayed_eject, delayed_note, delay_machine}
 use Rattle.scx_explore_findings.specs.QueueOrder.{place_in, leads, unnumbered, AreAsQueues}
-use Rattle.scx_explore_findings.specs.Hidden.{Hidden, unless, since_unless, hidden_in, all_hidden}
+use Rattle.scx_explore_findings.specs.Hidden.{Hidden, unless, since_unless, hidden_in, all_hidden, with_tasks}
 use Rattle.scx_explore_findings.specs.HiddenMachines.{hide_machine}
 use Rattle.scx_explore_findings.specs.UnreadParts.{AreSame}
 use Rattle.scx_explore_findings.specs.FifoOnly.{InsertInOrder}
 use Rattle.scx_explore_findings.specs.WholeForms.{DrawNone, IsWhole, IsPlain, IsSince, IsTidy, AreMapsOf}
+use Rattle.scx_explore_findings.specs.IdleSlices as idle
+use Rattle.scx_explore_findings.specs.IdleSlices.{runs_on, is_put_nowhere, is_idle_of, sliceless_if, without_slices, any_task}
+use Rattle.scx_explore_findings.proofs.IdleRecords.{read_at, length_same}
+use Rattle.scx_explore_findings.proofs.IdleTasks.{on_one, none_on}
 use Rattle.scx_explore_findings.proofs.DelayedTasks.{as_long, found_at, as_late}
 use Rattle.scx_explore_findings.proofs.SameQueues.{queue_same}
-use Rattle.scx_explore_findings.proofs.OrderTold.{order_told}
+use Rattle.scx_explore_findings.proofs.OrderTold.{order_told, at_eight}
 use Rattle.scx_explore_findings.proofs.PlacesTold.{IsSmall, IsKnown, place_tells_cpu, place_tells_entry}
 use Rattle.scx_explore_findings.proofs.CpusTold.{cpus_told}
 use Rattle.scx_explore_findings.proofs.TasksTold.{since_told, task_told}
@@ -122,17 +127,6 @@ leads_past : (o : Option Entry) → leads o None ≡ false
 leads_past None = refl
 leads_past (Some p) = refl
 
-at_eight : (s : QueueState) (k : ℕ) → k < 8 → get_or (entry_of s 0 ∷ entry_of s 1 ∷ entry_of s 2 ∷ entry_of s 3 ∷ entry_of s 4 ∷ entry_of s 5 ∷ entry_of s 6 ∷ entry_of s 7 ∷ []) k None ≡ entry_of s k
-at_eight s zero l = refl
-at_eight s (suc zero) l = refl
-at_eight s (suc (suc zero)) l = refl
-at_eight s (suc (suc (suc zero))) l = refl
-at_eight s (suc (suc (suc (suc zero)))) l = refl
-at_eight s (suc (suc (suc (suc (suc zero))))) l = refl
-at_eight s (suc (suc (suc (suc (suc (suc zero)))))) l = refl
-at_eight s (suc (suc (suc (suc (suc (suc (suc zero))))))) l = refl
-at_eight s (suc (suc (suc (suc (suc (suc (suc (suc k)))))))) l = absurd (omega (arith, l))
-
 known_is : (ids : List ℕ) (o : Option Entry) → IfSome o (λ e. number_in ids e.queue < length ids) → IsKnown ids o
 known_is ids None k = tt
 known_is ids (Some e) k = k
@@ -174,6 +168,64 @@ still_since now d (Some n) l = let k : n ≤ now = l in omega (arith, k)
 some_later : (d : ℕ) (o : Option ℕ) → is_some (later_by d o) ≡ is_some o
 some_later d None = refl
 some_later d (Some n) = refl
+
+-- ---- slices of tasks that sleep or are held
+
+-- the records of tasks, without such slices where that is so wanted
+abbrev rested : Bool → WorldState → List Task
+rested less w = if less then without_slices (is_idle_of any_task w) w.tasks else w.tasks
+
+-- a machine with these records
+abbrev pub resting : Bool → SimState → SimState
+resting less s = record s { state = record s.state { world = with_tasks s.state.world (rested less s.state.world) } }
+
+rested_at : (less : Bool) (w : WorldState) (k : ℕ) → get_or (rested less w) k no_task ≡ sliceless_if (less && idle.is_idle w k) (task_at w k)
+rested_at true w k = read_at (is_idle_of any_task w) w.tasks k
+rested_at false w k = refl
+
+rested_long : (less : Bool) (w : WorldState) → length w.tasks ≡ length (rested less w)
+rested_long true w = length_same (is_idle_of any_task w) w.tasks
+rested_long false w = refl
+
+or_so : (a b : Bool) → b ≡ true → (a || b) ≡ true
+or_so true b e = refl
+or_so false b e = e
+
+nowhere_told : (x y : Option Entry) → option_map unnumbered x ≡ option_map unnumbered y → is_put_nowhere x ≡ is_put_nowhere y
+nowhere_told None None e = refl
+nowhere_told None (Some q) e = absurd (false_isnt_so (ap is_some e))
+nowhere_told (Some p) None e = absurd (false_isnt_so (sym (ap is_some e)))
+nowhere_told (Some p) (Some q) e = ap is_put_nowhere e
+
+-- the record of a task, whose slice is told unless it is left out
+told_if : (b : Bool) (h : Hidden) (d : ℕ) (x y : Task) → since_unless h.waits (later_by d x.since) ≡ since_unless h.waits y.since → (b ≡ false → x.slice ≡ y.slice) → unless h.vtime x.vtime ≡ unless h.vtime y.vtime → x.prev_cpu ≡ y.prev_cpu
+    → unless h.run_ns x.run_ns ≡ unless h.run_ns y.run_ns → x.builtin ≡ y.builtin → hidden_in h (delayed_task d (sliceless_if b x)) ≡ hidden_in h (sliceless_if b y)
+told_if true h d x y since slice vtime home run builtin = task_told (hidden_in h (delayed_task d (with_slice x 0))) (hidden_in h (with_slice y 0)) since refl vtime home run builtin
+told_if false h d x y since slice vtime home run builtin = task_told (hidden_in h (delayed_task d x)) (hidden_in h y) since (slice refl) vtime home run builtin
+
+past_zero : (n : ℕ) → (1 + n == 0) ≡ false
+past_zero n = go (1 + n == 0) refl
+  where
+    go : (b : Bool) → (1 + n == 0) ≡ b → b ≡ false
+    go true e = let is = eqb-true (1 + n) 0 e in absurd (omega (arith, is))
+    go false e = refl
+
+-- a task counts as idle in its row just if it is
+row_is : (ids : List ℕ) (w : WorldState) → IsOnce None w → (k : ℕ) → is_idle (place_at w ids k) (entry_of w.queues k) ≡ idle.is_idle w k
+row_is ids w once k = go (cpu_of w k) refl
+  where
+    by : (o : Option Entry) → is_idle (place_of ids None o) o ≡ is_put_nowhere o
+    by None = refl
+    by (Some e) = refl
+
+    go : (o : Option ℕ) → cpu_of w k ≡ o → is_idle (place_at w ids k) (entry_of w.queues k) ≡ idle.is_idle w k
+    go (Some c) e =
+        let none = runner_waits_not w once k c e in
+        ap (λ (o : Option Entry). is_idle (place_of ids (cpu_of w k) o) o) none
+        ∙ (ap (λ (o : Option ℕ). is_idle (place_of ids o None) None) e ∙ (past_zero (c % 16) ∙ sym (ap (λ (b : Bool). not b && is_put_nowhere (entry_of w.queues k)) (on_one w.cpus k c e))))
+    go None e =
+        ap (λ (o : Option ℕ). is_idle (place_of ids o (entry_of w.queues k)) (entry_of w.queues k)) e
+        ∙ (by (entry_of w.queues k) ∙ sym (ap (λ (b : Bool). not b && is_put_nowhere (entry_of w.queues k)) (none_on w.cpus k e)))
 
 -- ---- two machines
 
@@ -322,7 +374,8 @@ module _ (shapes : List Shape) (root : SimState) (plain : IsPlain root) (f : For
 
   -- ---- once the first one is as late as the second one
 
-  module _ (d : ℕ) (later : v.clock + d ≡ w.clock) where
+  -- and without slices of tasks that sleep or are held, where the form leaves these out
+  module _ (less : Bool) (keeps : less ≡ false → f.idle_slices ≡ true) (d : ℕ) (later : v.clock + d ≡ w.clock) where
     since_same : (k : ℕ) → k < m → later_by d (task_at v k).since ≡ (task_at w k).since
     since_same k l =
         let a = (task_at v k).since in
@@ -335,27 +388,44 @@ module _ (shapes : List Shape) (root : SimState) (plain : IsPlain root) (f : For
         since_told w.clock (later_by d a) b (subst (λ (c : ℕ). IsSince c (later_by d a)) later (still_since v.clock d a (hs.tidy.0 k))) (ht.tidy.0 k) (some_later d a ∙ some)
         (sym (as_late d v.clock a ∙ ap (λ (c : ℕ). time_since c (later_by d a)) later) ∙ waited)
 
+    idle_same : (k : ℕ) → k < m → idle.is_idle v k ≡ idle.is_idle w k
+    idle_same k l =
+        ap (λ (cpus : List (Option ℕ)). not (runs_on k cpus) && is_put_nowhere (entry_of v.queues k)) cpus_same
+        ∙ ap (λ (b : Bool). not (runs_on k w.cpus) && b) (nowhere_told (entry_of v.queues k) (entry_of w.queues k) (place_same k l))
+
+    -- a task that isn't idle counts as one that runs or waits, so its slice is told
+    kept_here : (x : WorldState) → IsOnce None x → (k : ℕ) → (less && idle.is_idle x k) ≡ false → (f.idle_slices || not (is_idle (place_at x ids k) (entry_of x.queues k))) ≡ true
+    kept_here x once k e = go less refl
+      where
+        go : (b : Bool) → less ≡ b → (f.idle_slices || not (is_idle (place_at x ids k) (entry_of x.queues k))) ≡ true
+        go false is = or_true f.idle_slices (not (is_idle (place_at x ids k) (entry_of x.queues k))) (keeps is)
+        go true is = or_so f.idle_slices (not (is_idle (place_at x ids k) (entry_of x.queues k))) (ap not (row_is ids x once k ∙ sym (ap (λ (b : Bool). b && idle.is_idle x k) is) ∙ e))
+
+    slice_same : (k : ℕ) → k < m → (less && idle.is_idle v k) ≡ false → (task_at v k).slice ≡ (task_at w k).slice
+    slice_same k l e =
+        kept_is (f.idle_slices || not (is_idle (place_at v ids k) (entry_of v.queues k))) (f.idle_slices || not (is_idle (place_at w ids k) (entry_of w.queues k))) (task_at v k).slice (task_at w k).slice
+        (kept_here v hs.sound.once k e) (kept_here w ht.sound.once k (sym (ap (λ (b : Bool). less && b) (idle_same k l)) ∙ e)) (each k l).slice
+
     -- the record of a task without what is hidden
-    task_same : (k : ℕ) → k < m → hidden_in whole.hidden (delayed_task d (task_at v k)) ≡ hidden_in whole.hidden (task_at w k)
+    task_same : (k : ℕ) → k < m → hidden_in whole.hidden (delayed_task d (sliceless_if (less && idle.is_idle v k) (task_at v k))) ≡ hidden_in whole.hidden (sliceless_if (less && idle.is_idle w k) (task_at w k))
     task_same k l =
         let h = each k l in
-        task_told (hidden_in whole.hidden (delayed_task d (task_at v k))) (hidden_in whole.hidden (task_at w k)) (ap (since_unless whole.hidden.waits) (since_same k l))
-        (kept_is (f.idle_slices || not (is_idle (place_at v ids k) (entry_of v.queues k))) (f.idle_slices || not (is_idle (place_at w ids k) (entry_of w.queues k))) (task_at v k).slice (task_at w k).slice
-        (or_true f.idle_slices (not (is_idle (place_at v ids k) (entry_of v.queues k))) whole.idle_slices)
-        (or_true f.idle_slices (not (is_idle (place_at w ids k) (entry_of w.queues k))) whole.idle_slices) h.slice)
+        told_if (less && idle.is_idle v k) whole.hidden d (task_at v k) (task_at w k) (ap (since_unless whole.hidden.waits) (since_same k l)) (slice_same k l)
         (unless_same whole.hidden.vtime (task_at v k).vtime (task_at w k).vtime (λ e. kept_is f.vtime f.vtime (task_at v k).vtime (task_at w k).vtime (whole.vtime e) (whole.vtime e) h.vtime))
         (home_is (task_at v k).prev_cpu (task_at w k).prev_cpu (length v.cpus) (length w.cpus) (hs.sound.homes k) few_cpus (ht.sound.homes k) few_there h.prev_cpu)
         (unless_same whole.hidden.run_ns (task_at v k).run_ns (task_at w k).run_ns (λ e. kept_is f.run_ns f.run_ns (task_at v k).run_ns (task_at w k).run_ns (whole.run_ns e) (whole.run_ns e) h.run_ns))
         (hs.fresh.1 k ∙ sym (ht.fresh.1 k))
+        ∙ ap (λ (b : Bool). hidden_in whole.hidden (sliceless_if (less && b) (task_at w k))) (idle_same k l)
 
-    tasks_same : all_hidden whole.hidden (map (delayed_task d) v.tasks) ≡ all_hidden whole.hidden w.tasks
+    tasks_same : all_hidden whole.hidden (map (delayed_task d) (rested less v)) ≡ all_hidden whole.hidden (rested less w)
     tasks_same =
-        let many : length (map (delayed_task d) v.tasks) ≡ length w.tasks = sym (as_long (delayed_task d) v.tasks) ∙ shape.tasks in
-        hidden_told whole.hidden no_task (map (delayed_task d) v.tasks) w.tasks many
-        (λ k l. ap (hidden_in whole.hidden) (sym (found_at (delayed_task d) v.tasks k no_task)) ∙ task_same k (subst (λ (j : ℕ). k < j) (many ∙ sym ht.size.0) l))
+        let many : length (map (delayed_task d) (rested less v)) ≡ length (rested less w) = sym (as_long (delayed_task d) (rested less v)) ∙ (sym (rested_long less v) ∙ (shape.tasks ∙ rested_long less w)) in
+        hidden_told whole.hidden no_task (map (delayed_task d) (rested less v)) (rested less w) many
+        (λ k l. ap (hidden_in whole.hidden) (sym (found_at (delayed_task d) (rested less v) k no_task) ∙ ap (delayed_task d) (rested_at less v k))
+        ∙ (task_same k (subst (λ (j : ℕ). k < j) (many ∙ (sym (rested_long less w) ∙ sym ht.size.0)) l) ∙ sym (ap (hidden_in whole.hidden) (rested_at less w k))))
 
     -- without what is hidden the machines are the same but for unread parts, once the first one is as late
-    pub whole_told : AreSame (hide_machine whole.hidden (delay_machine d s)) (hide_machine whole.hidden t)
+    pub whole_told : AreSame (hide_machine whole.hidden (delay_machine d (resting less s))) (hide_machine whole.hidden (resting less t))
     whole_told =
         let policy = hs.policy ∙ sym ht.policy in
         let maps = maps_told shapes s.state.maps t.state.maps hs.maps ht.maps told.maps in

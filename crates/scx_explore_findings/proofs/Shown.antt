@@ -1,4 +1,4 @@
--- Two machines that are the same but for hidden parts show the same, as long as no task is late.
+-- Two machines that are the same but for what is left out show the same, as long as no task is late.
 use Rattle.std.proofs.Common.{◌≡◌, ℕ, ◌+◌, ◌<◌, ◌≤◌, true, List, [], ◌∷◌, length, Option, Some, None, refl, sym, ap, ◌∙◌, subst, arith}
 use Rattle.scx_sched_machine.specs.declared.events.Event.{Event}
 use Rattle.scx_sched_machine.specs.declared.events.Refused.{Refused}
@@ -10,18 +10,20 @@ use Rattle.scx_explore_findings.specs.Findings.{waits_left, IsFirstLeft, IsIdleB
 use Rattle.scx_explore_findings.specs.declared.finding.Finding.{Finding}
 use Rattle.scx_explore_findings.specs.declared.finding.Finding.TheVariants as finding
 use Rattle.scx_explore_findings.specs.Hidden.{Hidden}
-use Rattle.scx_explore_findings.specs.HiddenMachines.{AreSame, AreUnread, StayAsLate}
+use Rattle.scx_explore_findings.specs.HiddenMachines.{AreUnread, StayAsLate}
 use Rattle.scx_explore_findings.specs.ReachedStates.{SameMachinesShowTheSame, ReachedStatesGoAlike}
-use Rattle.scx_explore_findings.proofs.Records.{length_same}
+use Rattle.scx_explore_findings.specs.IdleSlices.{is_idle_of, any_task, AreSame as IdleAreSame}
+use Rattle.scx_explore_findings.proofs.Omitting.{Omitted, length_same}
+use Rattle.scx_explore_findings.proofs.LeftOut.{omit_machine, parts_alone, parts_same, slices_alone, slices_same}
 use Rattle.scx_explore_findings.proofs.Machines.{lists_dont_depend}
 use Rattle.scx_explore_findings.proofs.Near.{IsAfter, after_one, after_first, late_none}
 use Rattle.scx_explore_findings.proofs.Words.{words_dont_depend}
 
 -- ---- what is shown
 
-module _ (h : Hidden) (s t : SimState) (same : AreSame h s t) where
+module _ (h : Omitted) (s t : SimState) (same : omit_machine h s ≡ omit_machine h t) where
   as_many : length s.state.world.tasks ≡ length t.state.world.tasks
-  as_many = length_same h s.state.world.tasks ∙ ap (λ (y : SimState). length y.state.world.tasks) same ∙ sym (length_same h t.state.world.tasks)
+  as_many = length_same h.parts (is_idle_of h.idle s.state.world) s.state.world.tasks ∙ ap (λ (y : SimState). length y.state.world.tasks) same ∙ sym (length_same h.parts (is_idle_of h.idle t.state.world) t.state.world.tasks)
 
   left_same : (c u : ℕ) → waits_left t.state.world c u ≡ waits_left s.state.world c u
   left_same c u = ap (λ (y : SimState). waits_left y.state.world c u) (sym same)
@@ -33,6 +35,7 @@ module _ (h : Hidden) (s t : SimState) (same : AreSame h s t) where
   first_left c None k = λ u l. left_same c u ∙ k u (subst (λ (n : ℕ). u < n) (sym as_many) l)
   first_left c (Some u) k = (subst (λ (n : ℕ). u < n) as_many k.0, left_same c u ∙ k.1, λ v l. left_same c v ∙ k.2 v l)
 
+  -- the same CPU is idle while the same task waits
   idle_there : (e : Event) (o : Option Finding) → IsIdleBehind s e o → IsIdleBehind t e o
   idle_there e None k = λ c is free. first_left c None (k c is (sym (idle_same c) ∙ free))
   idle_there e (Some (finding.Idle c u)) k = (k.0, idle_same c ∙ k.1, first_left c (Some u) k.2)
@@ -47,9 +50,13 @@ module _ (h : Hidden) (s t : SimState) (same : AreSame h s t) where
 pub same_machines_show_the_same : SameMachinesShowTheSame
 same_machines_show_the_same h s t same = record {
   ejected = ap (λ (y : SimState). y.state.world.ejected) same;
-  idle = idle_there h s t same;
+  idle = idle_there (parts_alone h) s t (parts_same h s t same);
   written = λ f ids xs out is. words_dont_depend h f ids xs s t out same is;
 }
+
+-- and with slices of idle tasks alone left out too
+pub idle_shown : (s t : SimState) → IdleAreSame s t → (e : Event) (o : Option Finding) → IsIdleBehind s e o → IsIdleBehind t e o
+idle_shown s t same = idle_there (slices_alone any_task) s t (slices_same any_task s t same)
 
 -- ---- lists that are short enough
 

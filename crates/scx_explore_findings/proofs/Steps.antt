@@ -1,5 +1,5 @@
--- Callbacks, ejections and puts lead from two states that are the same but for hidden parts to two such states.
-use Rattle.std.proofs.Common.{◌≡◌, ℕ, zero, suc, Bool, true, false, cond, List, [], ◌∷◌, ◌++◌, length, map, ◌&&◌, Option, Some, None, is_some, refl, sym, ap, ◌∙◌, subst}
+-- Callbacks, ejections and puts lead from two states that are the same but for what is left out to two such states.
+use Rattle.std.proofs.Common.{◌≡◌, ℕ, zero, suc, Bool, true, false, cond, List, [], ◌∷◌, ◌++◌, length, map, ◌&&◌, Option, Some, None, is_some, refl, sym, ap, ◌∙◌, subst, ◌==◌, nat_lt, arith}
 use mathlib.Core.List.{map-append}
 use Rattle.scx_dsq.specs.Queues.{front_of}
 use Rattle.scx_isa_semantics.specs.declared.callbacks.Callback.{Callback}
@@ -14,10 +14,10 @@ use Rattle.scx_sched_world.specs.declared.eject.Cause.{Cause}
 use Rattle.scx_sched_world.specs.declared.eject.Eject.{Eject}
 use Rattle.scx_sched_world.specs.declared.faults.Fault.{Fault}
 use Rattle.scx_sched_world.specs.declared.notes.Note.{Note}
-use Rattle.scx_sched_world.specs.Ids.{global, local_on}
-use Rattle.scx_sched_world.specs.World.{WorldState, at_callback, note_now}
-use Rattle.scx_sched_world.specs.Tasks.{after_enter, fill_front, after_fill, put_parked, after_leave, next_for}
-use Rattle.scx_sched_world.specs.Ejecting.{eject_of, put_builtin, put_out, after_evictions, evict_notes, after_cut, eject_note}
+use Rattle.scx_sched_world.specs.Ids.{global, local_on, held_queue}
+use Rattle.scx_sched_world.specs.World.{WorldState, at_callback, note_now, is_throttled, waits, running}
+use Rattle.scx_sched_world.specs.Tasks.{after_enter, fill_front, after_fill, put_parked, after_leave, next_for, local_len}
+use Rattle.scx_sched_world.specs.Ejecting.{eject_of, put_builtin, put_out, after_evictions, evict_notes, after_cut, eject_note, cut_task}
 use Rattle.scx_sched_machine.specs.Policy.{PolicyState, program_of}
 use Rattle.scx_sched_machine.specs.Steps.{State, CallMade, Stepped, with_world, is_ejected, is_by_linux, stays, after, one_after_other}
 use Rattle.scx_sched_machine.specs.Ejecting.{moves_over, eject, ejected_for}
@@ -25,42 +25,101 @@ use Rattle.scx_sched_machine.specs.Callbacks.{call_ending, after_callback, calls
 use Rattle.scx_sched_machine.specs.Put.{enters, enqueue_choice, enters_builtin, comes_in, put}
 use Rattle.scx_sched_machine.specs.Filling.{move_note, fill}
 use Rattle.scx_sched_machine.specs.Parking.{park, if_throttled, throttled_front, park_then, park_next, clear, in_reach, supply}
-use Rattle.scx_explore_findings.specs.Hidden.{Hidden, hide}
-use Rattle.scx_explore_findings.specs.HiddenStates.{hide_state, hide_call, hide_step}
 use Rattle.scx_explore_findings.specs.Unread.{IsUnread}
 use Rattle.scx_sched_machine.proofs.Choices.{keeps_if}
+use Rattle.std.proofs.lemmas.Bool.{eqb-true}
+use Rattle.scx_sched_world.proofs.Fronts.{front_in}
+use Rattle.scx_sched.proofs.Seen.{next_seen}
+use Rattle.scx_explore_findings.specs.IdleSlices.{is_idle_of, TellsNoSlice, TellNoSlices}
 use Rattle.scx_explore_findings.proofs.Records.{alike_if}
-use Rattle.scx_explore_findings.proofs.Worlds.{Same, Hides, plain, both, throttled_same, hides_enter, hides_fill, hides_parked, hides_put_builtin, hides_move_over, move_notes_same, hides_cut}
-use Rattle.scx_explore_findings.proofs.Runs.{hide_ending, program_same}
+use Rattle.scx_explore_findings.proofs.Omitting.{Omitted, omit, omit_state, omit_call, omit_step, IfAny, if_any}
+use Rattle.scx_explore_findings.proofs.IdleTasks.{queued_busy, MayEnter, Given, Held, may_enter}
+use Rattle.scx_explore_findings.proofs.Worlds.{Same, Hides, plain, both, throttled_same, hides_enter, hides_brought, hides_parked, hides_parked_from, hides_put_builtin, hides_move_over, move_notes_same, hides_cut}
+use Rattle.scx_explore_findings.proofs.Helpers.{Wants}
+use Rattle.scx_explore_findings.proofs.Runs.{TellsNothing, omit_ending, program_same, program_wants}
 
-module _ (h : Hidden) (p : PolicyState) where
+-- no program loads anything that is left out, and where slices are left out each insert gives one
+pub record TellNothing (h : Omitted) (p : PolicyState) : Type 0 where
+  pub unread : (b : Callback) → IsUnread h.parts (program_of p b)
+  pub told : IfAny h.idle (TellNoSlices p)
+
+-- the same of a program, if there is one
+abbrev TellsOf : Omitted → Callback → Option VerifiedProgram → Type 0
+TellsOf h b None = Unit {0}
+TellsOf h b (Some q) = TellsNothing h b q.code
+
+-- a local queue isn't that of held tasks
+pub local_other : (c : ℕ) → (local_on c == held_queue) ≡ false
+local_other c = go (local_on c == held_queue) refl
+  where
+    go : (b : Bool) → (local_on c == held_queue) ≡ b → b ≡ false
+    go true e = let is = eqb-true (local_on c) held_queue e in absurd (omega (arith, is))
+    go false e = refl
+
+-- an ejection forgets what was wanted
+eject_wants : (s : State) (x : Eject) → Wants (eject s x).state.world.call.insert
+unfolding eject moves_over
+eject_wants s x =
+    let w = put_out s.world x in
+    let u = after_evictions (length w.tasks) w in
+    cut_forgets (length u.cpus) u (moved_forgets (length w.tasks) w tt)
+  where
+    builtin_forgets : (t : ℕ) (w : WorldState) → Wants w.call.insert → Wants (put_builtin w t).call.insert
+    builtin_forgets t w h = keeps_if (λ (v : WorldState). Wants v.call.insert) (nat_lt t (length w.tasks)) _ w h h
+
+    moved_forgets : (n : ℕ) (w : WorldState) → Wants w.call.insert → Wants (after_evictions n w).call.insert
+    moved_forgets zero w h = h
+    moved_forgets (suc n) w h =
+        let v = after_evictions n w in
+        let k = moved_forgets n w h in
+        keeps_if (λ (y : WorldState). Wants y.call.insert) (waits v n) (put_builtin (after_leave v n) n) v (builtin_forgets n (after_leave v n) k) k
+
+    task_forgets : (o : Option ℕ) (w : WorldState) → Wants w.call.insert → Wants (cut_task o w).call.insert
+    task_forgets None w h = h
+    task_forgets (Some t) w h = h
+
+    cut_forgets : (n : ℕ) (w : WorldState) → Wants w.call.insert → Wants (after_cut n w).call.insert
+    cut_forgets zero w h = h
+    cut_forgets (suc n) w h = let v = after_cut n w in task_forgets (running v n) v (cut_forgets n w h)
+
+module _ (h : Omitted) (p : PolicyState) where
   -- two steps come to the same, under that policy still
   abbrev pub Passes : Stepped → Stepped → Type 0
-  Passes r q = (hide_step h r ≡ hide_step h q) × (r.state.policy ≡ p)
+  Passes r q = (omit_step h r ≡ omit_step h q) × (r.state.policy ≡ p)
 
-  -- a step under that policy doesn't depend on what is hidden
+  -- a step under that policy doesn't depend on what is left out
   abbrev pub On : (State → Stepped) → Type 0
-  On f = (s : State) → s.policy ≡ p → Passes (f s) (f (hide_state h s))
+  On f = (s : State) → s.policy ≡ p → Passes (f s) (f (omit_state h s))
 
   -- ---- how steps are made of others
 
   -- from two states that are the same such a step comes to the same
-  pub from : (f : State → Stepped) → On f → (s t : State) → hide_state h s ≡ hide_state h t → s.policy ≡ p → Passes (f s) (f t)
+  pub from : (f : State → Stepped) → On f → (s t : State) → omit_state h s ≡ omit_state h t → s.policy ≡ p → Passes (f s) (f t)
   from f on s t e is =
       let there : t.policy ≡ p = sym (ap (λ (x : State). x.policy) e) ∙ is in
-      ((on s is).0 ∙ ap (λ (x : State). hide_step h (f x)) e ∙ sym (on t there).0, (on s is).1)
+      ((on s is).0 ∙ ap (λ (x : State). omit_step h (f x)) e ∙ sym (on t there).0, (on s is).1)
+
+  -- where what a callback wants has a slice, if slices are left out
+  abbrev pub OnGiven : (State → Stepped) → Type 0
+  OnGiven f = (s : State) → s.policy ≡ p → IfAny h.idle (Wants s.world.call.insert) → Passes (f s) (f (omit_state h s))
+
+  pub from_given : (f : State → Stepped) → OnGiven f → (s t : State) → omit_state h s ≡ omit_state h t → s.policy ≡ p → IfAny h.idle (Wants s.world.call.insert) → Passes (f s) (f t)
+  from_given f on s t e is wants =
+      let there : t.policy ≡ p = sym (ap (λ (x : State). x.policy) e) ∙ is in
+      let same : s.world.call.insert ≡ t.world.call.insert = ap (λ (x : State). x.world.call.insert) e in
+      ((on s is wants).0 ∙ ap (λ (x : State). omit_step h (f x)) e ∙ sym (on t there (if_any h.idle (subst Wants same) wants)).0, (on s is wants).1)
 
   -- from two worlds that are the same
-  pub in_world : (f : State → Stepped) → On f → (s : State) (v w : WorldState) → Same h v w → s.policy ≡ p → Passes (f (with_world s v)) (f (with_world (hide_state h s) w))
-  in_world f on s v w e is = from f on (with_world s v) (with_world (hide_state h s) w) (ap (λ (u : WorldState). with_world s u) e) is
+  pub in_world : (f : State → Stepped) → On f → (s : State) (v w : WorldState) → Same h v w → s.policy ≡ p → Passes (f (with_world s v)) (f (with_world (omit_state h s) w))
+  in_world f on s v w e is = from f on (with_world s v) (with_world (omit_state h s) w) (ap (λ (u : WorldState). with_world s u) e) is
 
-  -- a change of the state, under the same policy, doesn't depend on what is hidden
+  -- a change of the state, under the same policy, doesn't depend on what is left out
   abbrev pub Turns : (State → State) → Type 0
-  Turns f = (s : State) → (hide_state h (f s) ≡ hide_state h (f (hide_state h s))) × ((f s).policy ≡ s.policy)
+  Turns f = (s : State) → (omit_state h (f s) ≡ omit_state h (f (omit_state h s))) × ((f s).policy ≡ s.policy)
 
   -- a step after such a change
   pub after_turn : (f : State → State) (g : State → Stepped) → Turns f → On g → On (λ s. g (f s))
-  after_turn f g turn on s is = from g on (f s) (f (hide_state h s)) (turn s).0 ((turn s).1 ∙ is)
+  after_turn f g turn on s is = from g on (f s) (f (omit_state h s)) (turn s).0 ((turn s).1 ∙ is)
 
   -- the world is changed
   pub turns_world : (f : WorldState → WorldState) → Hides h f → Turns (λ s. with_world s (f s.world))
@@ -69,27 +128,31 @@ module _ (h : Hidden) (p : PolicyState) where
   -- a step, and then such a change
   pub turned : (k : State → State) → Turns k → (r q : Stepped) → Passes r q → Passes (record r { state = k r.state }) (record q { state = k q.state })
   turned k turn r q x = (
-    ap (λ (u : State). record r { state = u; calls = (hide_step h r).calls }) (turn r.state).0
-        ∙ ap (λ (u : Stepped). record u { state = hide_state h (k u.state) }) x.0
-        ∙ sym (ap (λ (u : State). record q { state = u; calls = (hide_step h q).calls }) (turn q.state).0),
+    ap (λ (u : State). record r { state = u; calls = (omit_step h r).calls }) (turn r.state).0
+        ∙ ap (λ (u : Stepped). record u { state = omit_state h (k u.state) }) x.0
+        ∙ sym (ap (λ (u : State). record q { state = u; calls = (omit_step h q).calls }) (turn q.state).0),
     (turn r.state).1 ∙ x.1,
   )
 
   -- the world is changed where a test says so
-  pub turns_if : (b : State → Bool) → ((s : State) → b s ≡ b (hide_state h s)) → (f : WorldState → WorldState) → Hides h f → Turns (λ s. cond (b s) (with_world s (f s.world)) s)
+  pub turns_if : (b : State → Bool) → ((s : State) → b s ≡ b (omit_state h s)) → (f : WorldState → WorldState) → Hides h f → Turns (λ s. cond (b s) (with_world s (f s.world)) s)
   turns_if b e f k s = (
-    alike_if (hide_state h) (b s) (b (hide_state h s)) (with_world s (f s.world)) (with_world (hide_state h s) (f (hide h s.world))) s (hide_state h s) (e s) (ap (λ (u : WorldState). with_world s u) (k s.world)) (ap (λ (u : WorldState). with_world s u) (plain h s.world)),
+    alike_if (omit_state h) (b s) (b (omit_state h s)) (with_world s (f s.world)) (with_world (omit_state h s) (f (omit h s.world))) s (omit_state h s) (e s) (ap (λ (u : WorldState). with_world s u) (k s.world)) (ap (λ (u : WorldState). with_world s u) (plain h s.world)),
     keeps_if (λ (x : State). x.policy ≡ s.policy) (b s) (with_world s (f s.world)) s refl refl,
   )
 
-  joined : (r q : Stepped) → hide_step h (one_after_other r q) ≡ one_after_other (hide_step h r) (hide_step h q)
-  joined r q = ap (λ (cs : List CallMade). record { state = hide_state h q.state; notes = r.notes ++ q.notes; calls = cs }) (map-append (hide_call h) r.calls q.calls)
+  joined : (r q : Stepped) → omit_step h (one_after_other r q) ≡ one_after_other (omit_step h r) (omit_step h q)
+  joined r q = ap (λ (cs : List CallMade). record { state = omit_state h q.state; notes = r.notes ++ q.notes; calls = cs }) (map-append (omit_call h) r.calls q.calls)
+
+  pub joins : (r q r' q' : Stepped) → Passes r q → Passes r' q' → Passes (one_after_other r r') (one_after_other q q')
+  joins r q r' q' e x = (joined r r' ∙ ap (λ (y : Stepped). one_after_other y (omit_step h r')) e.0 ∙ ap (λ (y : Stepped). one_after_other (omit_step h q) y) x.0 ∙ sym (joined q q'), x.1)
 
   -- one after another
   pub chain : (r q : Stepped) (f : State → Stepped) → Passes r q → On f → Passes (one_after_other r (f r.state)) (one_after_other q (f q.state))
-  chain r q f e on =
-      let x = from f on r.state q.state (ap (λ (y : Stepped). y.state) e.0) e.1 in
-      (joined r (f r.state) ∙ ap (λ (y : Stepped). one_after_other y (hide_step h (f r.state))) e.0 ∙ ap (λ (y : Stepped). one_after_other (hide_step h q) y) x.0 ∙ sym (joined q (f q.state)), x.1)
+  chain r q f e on = joins r q (f r.state) (f q.state) e (from f on r.state q.state (ap (λ (y : Stepped). y.state) e.0) e.1)
+
+  pub chain_given : (r q : Stepped) (f : State → Stepped) → Passes r q → IfAny h.idle (Wants r.state.world.call.insert) → OnGiven f → Passes (one_after_other r (f r.state)) (one_after_other q (f q.state))
+  chain_given r q f e wants on = joins r q (f r.state) (f q.state) e (from_given f on r.state q.state (ap (λ (y : Stepped). y.state) e.0) e.1 wants)
 
   -- with notes in front
   pub noted : (ns : List Note) (r q : Stepped) → Passes r q → Passes (after ns r) (after ns q)
@@ -107,19 +170,15 @@ module _ (h : Hidden) (p : PolicyState) where
   made s w ns = record { state = with_world s w; notes = ns; calls = [] }
 
   -- a step that changes the world alone, and notes that
-  pub single : (s : State) (v w : WorldState) (ns ms : List Note) → Same h v w → ns ≡ ms → s.policy ≡ p → Passes (record { state = with_world s v; notes = ns; calls = [] }) (record { state = with_world (hide_state h s) w; notes = ms; calls = [] })
+  pub single : (s : State) (v w : WorldState) (ns ms : List Note) → Same h v w → ns ≡ ms → s.policy ≡ p → Passes (record { state = with_world s v; notes = ns; calls = [] }) (record { state = with_world (omit_state h s) w; notes = ms; calls = [] })
   single s v w ns ms e f is =
-      (ap (λ (u : WorldState). made s u ns) e ∙ ap (λ (us : List Note). made s (hide h w) us) f, is)
+      (ap (λ (u : WorldState). made s u ns) e ∙ ap (λ (us : List Note). made s (omit h w) us) f, is)
 
   -- nothing is done
   pub rests : On stays
-  rests s is = single s s.world (hide h s.world) [] [] (plain h s.world) refl is
+  rests s is = single s s.world (omit h s.world) [] [] (plain h s.world) refl is
 
   -- ---- an ejection
-
-  -- the policy is put out of force
-  ousted : (x : Eject) → Hides h (λ w. put_out w x)
-  ousted x w = plain h (put_out w x)
 
   -- all that an ejection makes of a world
   abbrev behind : Eject → WorldState → WorldState
@@ -133,7 +192,7 @@ module _ (h : Hidden) (p : PolicyState) where
   unfolding eject moves_over
   passes_eject x s is =
       let w = s.world in
-      single s (behind x w) (behind x (hide h w)) (note_now w (eject_note x) ∷ evict_notes (length w.tasks) (put_out w x)) (note_now w (eject_note x) ∷ evict_notes (length (hide h w).tasks) (put_out (hide h w) x))
+      single s (behind x w) (behind x (omit h w)) (note_now w (eject_note x) ∷ evict_notes (length w.tasks) (put_out w x)) (note_now w (eject_note x) ∷ evict_notes (length (omit h w).tasks) (put_out (omit h w) x))
       (hides_behind x w) (ap (λ (ns : List Note). note_now w (eject_note x) ∷ ns) (move_notes_same h (put_out w x))) is
 
   -- it is ejected if there was a cause
@@ -143,61 +202,65 @@ module _ (h : Hidden) (p : PolicyState) where
 
   -- ---- callbacks
 
-  module _ (unread : (b : Callback) → IsUnread h (program_of p b)) where
-    unread_of : (b : Callback) (q : PolicyState) → q ≡ p → IsUnread h (program_of q b)
-    unread_of b q e = subst (λ (x : PolicyState). IsUnread h (program_of x b)) (sym e) (unread b)
-
-    unread_acting : (s : State) (b : Callback) → s.policy ≡ p → IsUnread h (acting s b)
-    unread_acting s b is = go s.world.ejected
+  module _ (tells : TellNothing h p) where
+    tells_of : (b : Callback) → TellsOf h b (program_of p b)
+    tells_of b = go (program_of p b) (tells.unread b) (if_any h.idle (λ told. told b) tells.told)
       where
-        go : (o : Option Eject) → IsUnread h (unless_ejected o (program_of s.policy b))
-        go None = unread_of b s.policy is
+        go : (q : Option VerifiedProgram) → IsUnread h.parts q → IfAny h.idle (TellsNoSlice b q) → TellsOf h b q
+        go None unread told = tt
+        go (Some q) unread told = record { unread = unread; told = told }
+
+    tells_acting : (s : State) (b : Callback) → s.policy ≡ p → TellsOf h b (acting s b)
+    tells_acting s b is = go s.world.ejected
+      where
+        go : (o : Option Eject) → TellsOf h b (unless_ejected o (program_of s.policy b))
+        go None = subst (λ (x : PolicyState). TellsOf h b (program_of x b)) (sym is) (tells_of b)
         go (Some x) = tt
 
     -- how a callback ends
-    called_same : (q : Option VerifiedProgram) → IsUnread h q → (b : Callback) (a : Args) (maps : Maps) (w : WorldState) → hide_ending h (call_ending q b a maps w) ≡ hide_ending h (call_ending q b a maps (hide h w))
+    called_same : (q : Option VerifiedProgram) (b : Callback) → TellsOf h b q → (a : Args) (maps : Maps) (w : WorldState) → omit_ending h (call_ending q b a maps w) ≡ omit_ending h (call_ending q b a maps (omit h w))
     unfolding call_ending
-    called_same None fine b a maps w = ap (λ (v : WorldState). record { answer = Some 0; maps = maps; outside = v }) (plain h w)
-    called_same (Some q) fine b a maps w = program_same h b q.code fine (program_arguments a) maps w
+    called_same None b fine a maps w = ap (λ (v : WorldState). record { answer = Some 0; maps = maps; outside = v }) (plain h w)
+    called_same (Some q) b fine a maps w = program_same h b q.code fine (program_arguments a) maps w
 
-    end_same : (s : State) (b : Callback) (a : Args) (t c : ℕ) → s.policy ≡ p → hide_ending h (call_ending (acting s b) b a s.maps (at_callback s.world b t c)) ≡ hide_ending h (call_ending (acting s b) b a s.maps (at_callback (hide h s.world) b t c))
-    end_same s b a t c is = called_same (acting s b) (unread_acting s b is) b a s.maps (at_callback s.world b t c)
+    end_same : (s : State) (b : Callback) (a : Args) (t c : ℕ) → s.policy ≡ p → omit_ending h (call_ending (acting s b) b a s.maps (at_callback s.world b t c)) ≡ omit_ending h (call_ending (acting s b) b a s.maps (at_callback (omit h s.world) b t c))
+    end_same s b a t c is = called_same (acting s b) b (tells_acting s b is) a s.maps (at_callback s.world b t c)
 
     -- what it answers
-    pub answered_same : (s : State) (b : Callback) (a : Args) (t c : ℕ) → s.policy ≡ p → answered_by s b a t c ≡ answered_by (hide_state h s) b a t c
+    pub answered_same : (s : State) (b : Callback) (a : Args) (t c : ℕ) → s.policy ≡ p → answered_by s b a t c ≡ answered_by (omit_state h s) b a t c
     unfolding answered_by
     answered_same s b a t c is = ap (λ (e : Ending WorldState). e.answer) (end_same s b a t c is)
 
     -- and what it notes
-    pub noted_same : (s : State) (b : Callback) (a : Args) (t c : ℕ) → s.policy ≡ p → noted_by s b a t c ≡ noted_by (hide_state h s) b a t c
+    pub noted_same : (s : State) (b : Callback) (a : Args) (t c : ℕ) → s.policy ≡ p → noted_by s b a t c ≡ noted_by (omit_state h s) b a t c
     unfolding noted_by
     noted_same s b a t c is = ap (λ (e : Ending WorldState). e.outside.notes) (end_same s b a t c is)
 
-    calls_same : (q : Option VerifiedProgram) (b : Callback) (a : Args) (maps : Maps) (w : WorldState) → map (hide_call h) (calls_of q b a maps w) ≡ map (hide_call h) (calls_of q b a maps (hide h w))
+    calls_same : (q : Option VerifiedProgram) (b : Callback) (a : Args) (maps : Maps) (w : WorldState) → map (omit_call h) (calls_of q b a maps w) ≡ map (omit_call h) (calls_of q b a maps (omit h w))
     calls_same None b a maps w = refl
     calls_same (Some q) b a maps w = ap (λ (v : WorldState). record { callback = b; program = q; arguments = a; maps = maps; world = v } ∷ []) (plain h w)
 
-    answer_fault_same : (b : Callback) (w : WorldState) (n : ℕ) → answer_fault b w n ≡ answer_fault b (hide h w) n
+    answer_fault_same : (b : Callback) (w : WorldState) (n : ℕ) → answer_fault b w n ≡ answer_fault b (omit h w) n
     answer_fault_same callback.SelectCpu w n = refl
     answer_fault_same b w n = refl
 
-    end_fault_same : (b : Callback) (w : WorldState) (o : Option ℕ) → end_fault b w o ≡ end_fault b (hide h w) o
+    end_fault_same : (b : Callback) (w : WorldState) (o : Option ℕ) → end_fault b w o ≡ end_fault b (omit h w) o
     end_fault_same b w None = refl
     end_fault_same b w (Some n) = answer_fault_same b w n
 
-    cause_shown : (b : Callback) (e : Ending WorldState) → cause_of b e ≡ cause_of b (hide_ending h e)
+    cause_shown : (b : Callback) (e : Ending WorldState) → cause_of b e ≡ cause_of b (omit_ending h e)
     cause_shown b e = ap (λ (o : Option Fault). or_cause e.outside.call.cause (as_cause o)) (end_fault_same b e.outside e.answer)
 
-    cause_same : (b : Callback) (e f : Ending WorldState) → hide_ending h e ≡ hide_ending h f → cause_of b e ≡ cause_of b f
+    cause_same : (b : Callback) (e f : Ending WorldState) → omit_ending h e ≡ omit_ending h f → cause_of b e ≡ cause_of b f
     cause_same b e f x = cause_shown b e ∙ ap (cause_of b) x ∙ sym (cause_shown b f)
 
     -- what a callback leaves, before its cause is looked at
     abbrev ended : PolicyState → List CallMade → Ending WorldState → Stepped
     ended q cs e = record { state = after_callback q e; notes = e.outside.notes; calls = cs }
 
-    ended_same : (q : PolicyState) (cs ds : List CallMade) (e f : Ending WorldState) → q ≡ p → map (hide_call h) cs ≡ map (hide_call h) ds → hide_ending h e ≡ hide_ending h f → Passes (ended q cs e) (ended q ds f)
+    ended_same : (q : PolicyState) (cs ds : List CallMade) (e f : Ending WorldState) → q ≡ p → map (omit_call h) cs ≡ map (omit_call h) ds → omit_ending h e ≡ omit_ending h f → Passes (ended q cs e) (ended q ds f)
     ended_same q cs ds e f is x y =
-        (ap (λ (us : List CallMade). ended q us (hide_ending h e)) x ∙ ap (λ (u : Ending WorldState). ended q (map (hide_call h) ds) u) y, is)
+        (ap (λ (us : List CallMade). ended q us (omit_ending h e)) x ∙ ap (λ (u : Ending WorldState). ended q (map (omit_call h) ds) u) y, is)
 
     -- a callback is called, and what follows it
     pub passes_call_back : (b : Callback) (a : Args) (t c : ℕ) → On (λ s. call_back s b a t c)
@@ -205,9 +268,9 @@ module _ (h : Hidden) (p : PolicyState) where
     passes_call_back b a t c s is =
         let w = at_callback s.world b t c in
         let e = call_ending (acting s b) b a s.maps w in
-        let f = call_ending (acting s b) b a s.maps (at_callback (hide h s.world) b t c) in
+        let f = call_ending (acting s b) b a s.maps (at_callback (omit h s.world) b t c) in
         let cs = calls_of (acting s b) b a s.maps w in
-        let ds = calls_of (acting s b) b a s.maps (at_callback (hide h s.world) b t c) in
+        let ds = calls_of (acting s b) b a s.maps (at_callback (omit h s.world) b t c) in
         let first = ended_same s.policy cs ds e f is (calls_same (acting s b) b a s.maps w) (end_same s b a t c is) in
         subst (λ (o : Option Cause). Passes (one_after_other (ended s.policy cs e) (ejected_for (cause_of b e) (after_callback s.policy e))) (one_after_other (ended s.policy ds f) (ejected_for o (after_callback s.policy f))))
         (cause_same b e f (end_same s b a t c is)) (chain (ended s.policy cs e) (ended s.policy ds f) (ejected_for (cause_of b e)) first (passes_ejected_for (cause_of b e)))
@@ -217,78 +280,132 @@ module _ (h : Hidden) (p : PolicyState) where
     unfolding call_by_linux
     passes_call_by_linux b a t c s is =
         let is_called = is_by_linux s && is_some (program_of s.policy b) in
-        choose is_called is_called (call_back s b a t c) (call_back (hide_state h s) b a t c) (stays s) (stays (hide_state h s)) refl (passes_call_back b a t c s is) (rests s is)
+        choose is_called is_called (call_back s b a t c) (call_back (omit_state h s) b a t c) (stays s) (stays (omit_state h s)) refl (passes_call_back b a t c s is) (rests s is)
 
     -- ---- a task that is put
 
     -- a task comes to wait where an insert wants it
-    pub passes_enters : (t : ℕ) (i : Insert) → On (λ s. enters s t i)
+    pub passes_enters : (t : ℕ) (i : Insert) → MayEnter h.idle t i → On (λ s. enters s t i)
     unfolding enters
-    passes_enters t i s is = single s (after_enter s.world t i) (after_enter (hide h s.world) t i) _ _ (hides_enter h t i s.world) refl is
+    passes_enters t i may s is = single s (after_enter s.world t i) (after_enter (omit h s.world) t i) _ _ (hides_enter h t i may s.world) refl is
 
     passes_enters_builtin : (t : ℕ) → On (λ s. enters_builtin s t)
     unfolding enters_builtin
-    passes_enters_builtin t s is = single s (put_builtin s.world t) (put_builtin (hide h s.world) t) _ _ (hides_put_builtin h t s.world) refl is
+    passes_enters_builtin t s is = single s (put_builtin s.world t) (put_builtin (omit h s.world) t) _ _ (hides_put_builtin h t s.world) refl is
 
-    passes_comes_in : (t c : ℕ) → On (λ s. comes_in s t c)
+    -- where enqueue wants it a task is given a slice, or it is held
+    given_choice : (q : Option VerifiedProgram) (t c : ℕ) (o : Option Insert) → IfAny h.idle (Wants o) → MayEnter h.idle t (enqueue_choice q c o)
+    given_choice None t c o wants = Given refl
+    given_choice (Some x) t c None wants = Held refl
+    given_choice (Some x) t c (Some i) wants = may_enter h.idle t (enqueue_choice (Some x) c (Some i)) wants
+
+    passes_comes_in : (t c : ℕ) → OnGiven (λ s. comes_in s t c)
     unfolding comes_in
-    passes_comes_in t c s is =
+    passes_comes_in t c s is wants =
         let i = enqueue_choice s.policy.callbacks.enqueue c s.world.call.insert in
-        choose (is_ejected s) (is_ejected s) (enters_builtin s t) (enters_builtin (hide_state h s) t) (enters s t i) (enters (hide_state h s) t i) refl (passes_enters_builtin t s is) (passes_enters t i s is)
+        choose (is_ejected s) (is_ejected s) (enters_builtin s t) (enters_builtin (omit_state h s) t) (enters s t i) (enters (omit_state h s) t i) refl (passes_enters_builtin t s is)
+        (passes_enters t i (given_choice s.policy.callbacks.enqueue t c s.world.call.insert wants) s is)
+
+    -- what a callback wants has a slice, as its program gives one, and an ejection forgets it
+    ejected_wants : (o : Option Cause) (s : State) → Wants s.world.call.insert → Wants (ejected_for o s).state.world.call.insert
+    ejected_wants None s k = k
+    ejected_wants (Some x) s k = eject_wants s (eject_of x s.world.clock)
+
+    called_wants : (q : Option VerifiedProgram) (b : Callback) → TellsNoSlice b q → (a : Args) (maps : Maps) (w : WorldState) → Wants w.call.insert → Wants (call_ending q b a maps w).outside.call.insert
+    unfolding call_ending
+    called_wants None b fine a maps w k = k
+    called_wants (Some q) b fine a maps w k = program_wants b q.code fine (program_arguments a) maps w k
+
+    told_acting : TellNoSlices p → (s : State) (b : Callback) → s.policy ≡ p → TellsNoSlice b (acting s b)
+    told_acting told s b is = go s.world.ejected
+      where
+        go : (o : Option Eject) → TellsNoSlice b (unless_ejected o (program_of s.policy b))
+        go None = subst (λ (x : PolicyState). TellsNoSlice b (program_of x b)) (sym is) (told b)
+        go (Some x) = tt
+
+    pub call_back_wants : (b : Callback) (a : Args) (t c : ℕ) (s : State) → s.policy ≡ p → IfAny h.idle (Wants (call_back s b a t c).state.world.call.insert)
+    unfolding call_back
+    call_back_wants b a t c s is =
+        let w = at_callback s.world b t c in
+        let e = call_ending (acting s b) b a s.maps w in
+        if_any h.idle (λ told. ejected_wants (cause_of b e) (after_callback s.policy e) (called_wants (acting s b) b (told_acting told s b is) a s.maps w tt)) tells.told
 
     -- a task is put
     pub passes_put : (t c flags : ℕ) → On (λ s. put s t c flags)
     unfolding put
     passes_put t c flags s is =
-        chain (call_back s callback.Enqueue (task_and_number t flags) t c) (call_back (hide_state h s) callback.Enqueue (task_and_number t flags) t c) (λ r. comes_in r t c)
-        (passes_call_back callback.Enqueue (task_and_number t flags) t c s is) (passes_comes_in t c)
+        let a = task_and_number t flags in
+        chain_given (call_back s callback.Enqueue a t c) (call_back (omit_state h s) callback.Enqueue a t c) (λ r. comes_in r t c)
+        (passes_call_back callback.Enqueue a t c s is) (call_back_wants callback.Enqueue a t c s is) (passes_comes_in t c)
 
   -- ---- local queues are filled, and their fronts parked
 
-  note_same : (o : Option ℕ) (w : WorldState) (c : ℕ) → move_note w o c ≡ move_note (hide h w) o c
+  -- where a queue is one of tasks that aren't held, its first task isn't idle
+  fills : (q c : ℕ) → (q == held_queue) ≡ false → (w : WorldState) (t : ℕ) → fill_front w q c ≡ Some t → is_idle_of h.idle w t ≡ false
+  fills q c other w t e = go (nat_lt 0 (local_len w c)) e
+    where
+      go : (b : Bool) → (cond b None (next_for w q c)) ≡ Some t → is_idle_of h.idle w t ≡ false
+      go true is = absurd (cc)
+      go false is = queued_busy h.idle w t q other (next_seen w q c t is).there
+
+  note_same : (o : Option ℕ) (w : WorldState) (c : ℕ) → move_note w o c ≡ move_note (omit h w) o c
   note_same None w c = refl
   note_same (Some t) w c = refl
 
   -- a local queue is filled
-  pub passes_fill : (q c : ℕ) → On (λ s. fill s q c)
+  pub passes_fill : (q c : ℕ) → (q == held_queue) ≡ false → On (λ s. fill s q c)
   unfolding fill
-  passes_fill q c s is = single s (after_fill s.world q c) (after_fill (hide h s.world) q c) _ _ (hides_fill h q c s.world) (note_same (fill_front s.world q c) s.world c) is
+  passes_fill q c other s is = single s (after_fill s.world q c) (after_fill (omit h s.world) q c) _ _ (hides_brought h (fill_front s.world q c) c s.world (fills q c other s.world)) (note_same (fill_front s.world q c) s.world c) is
 
   -- a task is parked
-  pub passes_park : (t : ℕ) → On (λ s. park s t)
+  pub passes_park : (t : ℕ) → h.idle t ≡ false → On (λ s. park s t)
   unfolding park
-  passes_park t s is = single s (put_parked s.world t) (put_parked (hide h s.world) t) _ _ (hides_parked h t s.world) refl is
+  passes_park t out s is = single s (put_parked s.world t) (put_parked (omit h s.world) t) _ _ (hides_parked h t out s.world) refl is
 
-  front_same : (o : Option ℕ) (w : WorldState) → if_throttled w o ≡ if_throttled (hide h w) o
+  -- one that leaves its queue
+  passes_park_from : (t : ℕ) (s : State) → s.policy ≡ p → is_idle_of h.idle s.world t ≡ false → Passes (park (with_world s (after_leave s.world t)) t) (park (with_world (omit_state h s) (after_leave (omit h s.world) t)) t)
+  unfolding park
+  passes_park_from t s is busy = single s (put_parked (after_leave s.world t) t) (put_parked (after_leave (omit h s.world) t) t) _ _ (hides_parked_from h t s.world busy) refl is
+
+  front_same : (o : Option ℕ) (w : WorldState) → if_throttled w o ≡ if_throttled (omit h w) o
   front_same None w = refl
   front_same (Some t) w = ap (λ (b : Bool). cond b (Some t) None) (throttled_same h w t)
 
-  passes_park_then : (next : State → Stepped) → On next → (o : Option ℕ) → On (λ s. park_then next s o)
-  passes_park_then next more None s is = rests s is
-  passes_park_then next more (Some t) s is =
-      chain (park (with_world s (after_leave s.world t)) t) (park (with_world (hide_state h s) (after_leave (hide h s.world) t)) t) next (passes_park t (with_world s (after_leave s.world t)) is) more
+  passes_park_then : (next : State → Stepped) → On next → (o : Option ℕ) (s : State) → s.policy ≡ p → ((t : ℕ) → o ≡ Some t → is_idle_of h.idle s.world t ≡ false) → Passes (park_then next s o) (park_then next (omit_state h s) o)
+  passes_park_then next more None s is busy = rests s is
+  passes_park_then next more (Some t) s is busy =
+      chain (park (with_world s (after_leave s.world t)) t) (park (with_world (omit_state h s) (after_leave (omit h s.world) t)) t) next (passes_park_from t s is (busy t refl)) more
+
+  throttled_is : (w : WorldState) (o : Option ℕ) (t : ℕ) → if_throttled w o ≡ Some t → o ≡ Some t
+  throttled_is w None t e = absurd (cc)
+  throttled_is w (Some u) t e = go (is_throttled w u) e
+    where
+      go : (b : Bool) → cond b (Some u) None ≡ Some t → Some u ≡ Some t
+      go true is = is
+      go false is = absurd (cc)
 
   -- of a task, if it is throttled
-  passes_if_throttled : (next : State → Stepped) → On next → (o : Option ℕ) (s : State) → s.policy ≡ p → Passes (park_then next s (if_throttled s.world o)) (park_then next (hide_state h s) (if_throttled (hide h s.world) o))
-  passes_if_throttled next more o s is =
-      subst (λ (x : Option ℕ). Passes (park_then next s (if_throttled s.world o)) (park_then next (hide_state h s) x)) (front_same o s.world) (passes_park_then next more (if_throttled s.world o) s is)
+  passes_if_throttled : (next : State → Stepped) → On next → (o : Option ℕ) (s : State) → s.policy ≡ p → ((t : ℕ) → o ≡ Some t → is_idle_of h.idle s.world t ≡ false) → Passes (park_then next s (if_throttled s.world o)) (park_then next (omit_state h s) (if_throttled (omit h s.world) o))
+  passes_if_throttled next more o s is busy =
+      subst (λ (x : Option ℕ). Passes (park_then next s (if_throttled s.world o)) (park_then next (omit_state h s) x)) (front_same o s.world)
+      (passes_park_then next more (if_throttled s.world o) s is (λ t e. busy t (throttled_is s.world o t e)))
 
-  -- of the front of a queue, if it is throttled
-  passes_front : (next : State → Stepped) → On next → (q : ℕ) → On (λ s. park_then next s (throttled_front s q))
-  passes_front next more q s is = passes_if_throttled next more (front_of s.world.queues q) s is
+  -- of the front of a queue of tasks that aren't held, if it is throttled
+  passes_front : (next : State → Stepped) → On next → (q : ℕ) → (q == held_queue) ≡ false → On (λ s. park_then next s (throttled_front s q))
+  passes_front next more q other s is = passes_if_throttled next more (front_of s.world.queues q) s is (λ t e. queued_busy h.idle s.world t q other (front_in s.world.queues q t e))
 
-  -- the first tasks of a queue that may run on a processor are parked, as long as they are throttled
-  pub passes_park_next : (n q c : ℕ) → On (λ s. park_next n s q c)
+  -- the first tasks of such a queue that may run on a processor are parked, as long as they are throttled
+  pub passes_park_next : (n q c : ℕ) → (q == held_queue) ≡ false → On (λ s. park_next n s q c)
   unfolding park_next
-  passes_park_next zero q c s is = rests s is
-  passes_park_next (suc n) q c s is = passes_if_throttled (λ r. park_next n r q c) (passes_park_next n q c) (next_for s.world q c) s is
+  passes_park_next zero q c other s is = rests s is
+  passes_park_next (suc n) q c other s is = passes_if_throttled (λ r. park_next n r q c) (passes_park_next n q c other) (next_for s.world q c) s is (λ t e. queued_busy h.idle s.world t q other (next_seen s.world q c t e).there)
 
   passes_clear : (n c : ℕ) → On (λ s. clear n s c)
   unfolding clear
   passes_clear zero c s is = rests s is
   passes_clear (suc n) c s is =
       let next : State → Stepped = λ r. clear n r c in
-      chain (fill s global c) (fill (hide_state h s) global c) (λ r. park_then next r (throttled_front r (local_on c))) (passes_fill global c s is) (passes_front next (passes_clear n c) (local_on c))
+      chain (fill s global c) (fill (omit_state h s) global c) (λ r. park_then next r (throttled_front r (local_on c))) (passes_fill global c refl s is) (passes_front next (passes_clear n c) (local_on c) (local_other c))
 
   -- a local queue is supplied
   pub passes_supply : (c : ℕ) → On (λ s. supply s c)

@@ -213,7 +213,7 @@ module _ (v : Hierarchy) where
     faulty = λ x. h;
     ended = λ n. h;
     created = λ may q. h;
-    inserted = λ t i fifo. tidy_inserted w None t i h;
+    inserted = λ may t i fifo. tidy_inserted w None t i h;
     by_vtime = λ may t i. tidy_inserted w None t i h;
     late = h;
     moved = λ o. tidy_moved w o h;

@@ -211,7 +211,7 @@ module _ (v : WorldState) where
     faulty = λ x. h;
     ended = λ n. h;
     created = λ may q. absurd (apart (is_allowed CreateDsq b) may barred);
-    inserted = λ t i fifo. sized_inserted w None t i h;
+    inserted = λ may t i fifo. sized_inserted w None t i h;
     by_vtime = λ may t i. sized_inserted w None t i h;
     late = h;
     moved = λ o. sized_moved w o h;

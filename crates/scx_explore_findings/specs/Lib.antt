@@ -20,4 +20,6 @@ pub mod QueueOrder
 pub mod UnreadParts
 pub mod Between
 pub mod Delayed
+pub mod IdleSlices
+pub mod GivenSlices
 pub mod WholeForms

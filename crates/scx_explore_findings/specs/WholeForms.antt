@@ -32,6 +32,7 @@ use Rattle.scx_explore_findings.specs.FifoOnly.{InsertInOrder, IsInOrder}
 use Rattle.scx_explore_findings.specs.Hidden.{Hidden}
 use Rattle.scx_explore_findings.specs.HiddenLaws.{LeavesOut}
 use Rattle.scx_explore_findings.specs.HiddenMachines.{AreUnread}
+use Rattle.scx_explore_findings.specs.IdleSlices.{TellNoSlices}
 
 -- ---- programs
 
@@ -62,13 +63,14 @@ pub record TellsNoTime (p : PolicyState) : Type 0 where
 -- ---- forms
 
 -- the form keeps everything that a program of the policy can read: it leaves out the number of
--- pushes, and at most the clock where no program tells the time, keys where none inserts a task by
--- one, the random number where none draws one, and run times and virtual times that none loads
+-- pushes, and at most the clock where no program tells the time, slices of tasks that sleep or are
+-- held where none tells them, keys where none inserts a task by one, the random number where none
+-- draws one, and run times and virtual times that none loads
 pub record IsWhole (p : PolicyState) (f : Form) : Type 0 where
   pub clock : (f.clock ≡ true) ⊎ TellsNoTime p
   pub pushes : f.pushes ≡ false
   pub waits : f.waits ≡ true
-  pub idle_slices : f.idle_slices ≡ true
+  pub idle_slices : (f.idle_slices ≡ true) ⊎ TellNoSlices p
   pub keys : (f.keys ≡ true) ⊎ InsertInOrder p
   pub hidden : Hidden
   pub waits_stay : hidden.waits ≡ false

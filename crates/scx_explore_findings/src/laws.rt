@@ -1,5 +1,7 @@
 ghost use Rattle.scx_explore_findings.specs.FifoOnly.{FirstStatesAreInOrder, NobodyWaitsByVtime};
 ghost use Rattle.scx_explore_findings.specs.Delayed.{EventsDontTellTimes};
+ghost use Rattle.scx_explore_findings.specs.IdleSlices.{EventsTellNoIdleSlices};
+ghost use Rattle.scx_explore_findings.specs.GivenSlices.{SuchProgramsGiveSlices};
 ghost use Rattle.scx_explore_findings.specs.Between.{EventsKeepQueuesSound, EventsLeaveNoNotes};
 ghost use Rattle.scx_explore_findings.specs.UnreadParts.{EventsReadNoSuchPart, ListsReadNoSuchPart, SuchPartsShowNothing};
 ghost use Rattle.scx_explore_findings.specs.ReachedStates.{SameMachinesShowTheSame, ReachedStatesGoAlike};
@@ -66,12 +68,16 @@ pub fn reached_states_go_alike()
 /// again after it; and after a list of events. Both show the same: the cause of an ejection, idle CPUs, and the words of
 /// a form that leaves out the number of pushes. And if all times of a machine are later by as much, and no program reads the
 /// clock, an event is refused for the same cause, and leads to the same machine, later; slices have to end exactly, and the
-/// periods of quotas to begin alike. The function does nothing: its contract is the law.
+/// periods of quotas to begin alike. If no program loads a slice, and no insert gives one of 0, two machines that are the
+/// same but for slices of tasks that sleep or are held answer an event alike too. An insert gives none of 0 where the code
+/// shows that r3 holds a constant other than 0. The function does nothing: its contract is the law.
 pub fn unread_parts_change_nothing()
     ensures event { EventsReadNoSuchPart }
     ensures list { ListsReadNoSuchPart }
     ensures shown { SuchPartsShowNothing }
     ensures times { EventsDontTellTimes }
+    ensures slices { EventsTellNoIdleSlices }
+    ensures given { SuchProgramsGiveSlices }
 {}
 
 /// Between two events no note is left, and while the policy is in force the host tracks idle CPUs as it did; and queues are

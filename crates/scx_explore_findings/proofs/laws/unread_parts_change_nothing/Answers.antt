@@ -1,4 +1,6 @@
 use Rattle.scx_explore_findings.proofs.DelayedMachines.{events_dont_tell_times}
+use Rattle.scx_explore_findings.proofs.GivenSlices.{such_programs_give_slices}
+use Rattle.scx_explore_findings.proofs.Machines.{events_tell_no_idle_slices}
 use Rattle.scx_explore_findings.proofs.SameMachines.{events_read_no_such_part, lists_read_no_such_part}
 use Rattle.scx_explore_findings.proofs.SameShown.{such_parts_show_nothing}
 use Rattle.scx_explore_findings.proofs.laws.unread_parts_change_nothing.Goals as goal
@@ -14,3 +16,9 @@ returns-clause-shown c = such_parts_show_nothing
 
 pub returns-clause-times : goal.returns-clause-times
 returns-clause-times c = events_dont_tell_times
+
+pub returns-clause-slices : goal.returns-clause-slices
+returns-clause-slices c = events_tell_no_idle_slices
+
+pub returns-clause-given : goal.returns-clause-given
+returns-clause-given c = such_programs_give_slices

@@ -1,4 +1,4 @@
-use Rattle.std.proofs.Common.{length, take, ap, ◌∙◌, subst, arith}
+use Rattle.std.proofs.Common.{take, ap, ◌∙◌, subst, arith}
 use Rattle.scx_sched_machine.specs.Notes.{Takes}
 use Rattle.scx_sched.specs.Sim.{SimState, refusal, answer_of, notes_of}
 use Rattle.scx_explore_findings.specs.Path.{last_of}

@@ -1,0 +1,92 @@
+-- Parts of records alone, and slices of idle tasks alone, as what is left out.
+use Rattle.std.proofs.Common.{◌≡◌, ℕ, suc, Bool, false, List, [], ◌∷◌, map, Option, Some, None, refl, sym, ap, ◌∙◌}
+use Rattle.scx_isa_semantics.specs.declared.host_tables.Field.{Field}
+use Rattle.scx_isa_semantics.specs.declared.host_tables.Field.TheVariants.{DsqVtime, RunNs}
+use Rattle.scx_isa_semantics.specs.declared.instructions.Insn.{Insn}
+use Rattle.scx_isa_semantics.specs.declared.instructions.Insn.TheVariants.{Load}
+use Rattle.scx_isa_semantics.specs.Arithmetic.{at_distance}
+use Rattle.scx_isa_semantics.specs.Code.{at}
+use Rattle.scx_isa_semantics.specs.HostTables.{field_at}
+use Rattle.scx_isa_semantics.specs.Memory.{access_size, size_bytes}
+use Rattle.scx_vm.specs.Programs.{VerifiedProgram}
+use Rattle.scx_sched_tasks.specs.declared.task.Task.{Task}
+use Rattle.scx_sched_world.specs.World.{WorldState}
+use Rattle.scx_sched_machine.specs.Steps.{CallMade, with_world}
+use Rattle.scx_sched.specs.Sim.{SimState}
+use Rattle.scx_explore_findings.specs.Hidden.{Hidden, all_hidden, hidden_in, with_tasks, hide}
+use Rattle.scx_explore_findings.specs.HiddenStates.{hide_call}
+use Rattle.scx_explore_findings.specs.HiddenMachines.{hide_machine, AreSame}
+use Rattle.scx_explore_findings.specs.IdleSlices.{is_idle_of, sliceless_if, without_slices, erase, erase_state}
+use Rattle.scx_explore_findings.specs.Unread.{is_hidden_field, may_read, IsUnread}
+use Rattle.scx_explore_findings.proofs.Omitting.{Omitted, omit, omit_state, omit_call}
+
+-- a machine without what is left out
+abbrev pub omit_machine : Omitted → SimState → SimState
+omit_machine h s = record s { state = omit_state h s.state }
+
+-- ---- parts of records
+
+-- parts of records, and no slice
+abbrev pub parts_alone : Hidden → Omitted
+parts_alone h = record { parts = h; idle = λ t. false }
+
+none_less : (p : ℕ → Bool) (xs : List Task) → ((t : ℕ) → p t ≡ false) → without_slices p xs ≡ xs
+none_less p [] e = refl
+none_less p (x ∷ xs) e =
+    ap (λ (b : Bool). sliceless_if b x ∷ without_slices (λ t. p (suc t)) xs) (e 0) ∙ ap (λ (ys : List Task). x ∷ ys) (none_less (λ t. p (suc t)) xs (λ t. e (suc t)))
+
+-- the world is the one in which they are hidden
+pub parts_world : (h : Hidden) (w : WorldState) → omit (parts_alone h) w ≡ hide h w
+parts_world h w = ap (λ (xs : List Task). with_tasks w (all_hidden h xs)) (none_less (is_idle_of (λ t. false) w) w.tasks (λ t. refl))
+
+-- so is the machine
+pub parts_machine : (h : Hidden) (s : SimState) → omit_machine (parts_alone h) s ≡ hide_machine h s
+parts_machine h s = ap (λ (w : WorldState). record s { state = with_world s.state w }) (parts_world h s.state.world)
+
+-- so two are the same but for these parts
+pub parts_same : (h : Hidden) (s t : SimState) → AreSame h s t → omit_machine (parts_alone h) s ≡ omit_machine (parts_alone h) t
+parts_same h s t same = parts_machine h s ∙ same ∙ sym (parts_machine h t)
+
+-- and calls are those in which they are hidden
+pub parts_calls : (h : Hidden) (cs : List CallMade) → map (omit_call (parts_alone h)) cs ≡ map (hide_call h) cs
+parts_calls h [] = refl
+parts_calls h (c ∷ cs) =
+    ap (λ (w : WorldState). record c { world = w } ∷ map (omit_call (parts_alone h)) cs) (parts_world h c.world) ∙ ap (λ (ds : List CallMade). hide_call h c ∷ ds) (parts_calls h cs)
+
+-- ---- slices
+
+-- slices of those tasks that are idle, and nothing else
+abbrev pub slices_alone : (ℕ → Bool) → Omitted
+slices_alone d = record { parts = record { run_ns = false; vtime = false; waits = false }; idle = d }
+
+nothing_less : (d : ℕ → Bool) (xs : List Task) → all_hidden (slices_alone d).parts xs ≡ xs
+nothing_less d [] = refl
+nothing_less d (x ∷ xs) = ap (λ (ys : List Task). hidden_in (slices_alone d).parts x ∷ ys) (nothing_less d xs)
+
+-- the world is the one in which they are erased
+pub slices_world : (d : ℕ → Bool) (w : WorldState) → omit (slices_alone d) w ≡ erase d w
+slices_world d w = ap (λ (xs : List Task). with_tasks w xs) (nothing_less d (without_slices (is_idle_of d w) w.tasks))
+
+-- so is the machine
+pub slices_machine : (d : ℕ → Bool) (s : SimState) → omit_machine (slices_alone d) s ≡ record s { state = erase_state d s.state }
+slices_machine d s = ap (λ (w : WorldState). record s { state = with_world s.state w }) (slices_world d s.state.world)
+
+-- so two are the same but for these slices
+pub slices_same : (d : ℕ → Bool) (s t : SimState) → record s { state = erase_state d s.state } ≡ record t { state = erase_state d t.state } → omit_machine (slices_alone d) s ≡ omit_machine (slices_alone d) t
+slices_same d s t same = slices_machine d s ∙ same ∙ sym (slices_machine d t)
+
+field_shown : (d : ℕ → Bool) (o : Option Field) → is_hidden_field (slices_alone d).parts o ≡ false
+field_shown d None = refl
+field_shown d (Some RunNs) = refl
+field_shown d (Some DsqVtime) = refl
+field_shown d (Some f) = refl
+
+insn_shown : (d : ℕ → Bool) (o : Option Insn) → may_read (slices_alone d).parts o ≡ false
+insn_shown d None = refl
+insn_shown d (Some (Load a b r offset)) = field_shown d (field_at (size_bytes (access_size a)) (at_distance 0 offset))
+insn_shown d (Some i) = refl
+
+-- no program reads what isn't hidden
+pub slices_unread : (d : ℕ → Bool) (o : Option VerifiedProgram) → IsUnread (slices_alone d).parts o
+slices_unread d None = tt
+slices_unread d (Some q) = λ slot. insn_shown d (at q.code slot)
