@@ -1,6 +1,8 @@
 -- The end of a search.
-use Rattle.std.proofs.Common.{◌≡◌, ℕ, ◌+◌, ◌-◌, ◌^◌, ◌≤◌, min, List, ◌++◌, Bool, true, false, Option, Some, None, Result, Ok, Err, inl, inr, ◌⊎◌, refl, ap, sym, ◌∙◌, subst}
-use Rattle.std.specs.Prelude.{OnOk, IfOk, IfSome, IsSome, flat_map, unwrap_or}
+use Rattle.std.proofs.Common.{◌≡◌, ℕ, ◌+◌, ◌-◌, ◌^◌, ◌≤◌, min, List, [], ◌∷◌, ◌++◌, Bool, true, false, Option, Some, None, Result, Ok, Err, inl, inr, ◌⊎◌, refl, ap, sym, ◌∙◌, subst}
+use Rattle.std.proofs.lemmas.List.Elements.{All-push}
+use Rattle.std.proofs.KnownBytes.{Appends-trans}
+use Rattle.std.specs.Prelude.{All, IfOk, IfSome, IsSome, unwrap_or}
 use Rattle.std.specs.Io.KnownBytes.{Appends}
 use Rattle.scx_load_workloads.specs.Workload.{WorkloadState}
 use Rattle.scx_sched.specs.Sim.{SimState}
@@ -13,8 +15,10 @@ use Rattle.scx_explore.specs.declared.course.End.TheVariants.{Ended, At, Full}
 use Rattle.scx_explore.specs.declared.progress.Level.{Level}
 use Rattle.scx_explore.specs.declared.starts.Starts.{Starts}
 use Rattle.scx_explore.specs.Ends.{HasNoNew, IsEndOf, done_of}
-use Rattle.scxsim_explore_lines.specs.Summary.{Depths, Nones, summary_text}
-use Rattle.scxsim_explore.specs.Telling.{CantBeLooked, HasNoChanges, IsEnded, IsGoneThrough, IsReach, IsSure, IsThrough, MayBeLooked, moves_of}
+use Rattle.scxsim_explore_lines.specs.Found.{ToldList}
+use Rattle.scxsim_explore_lines.specs.Summary.{Depths, Nones, memory_line, search_text}
+use Rattle.scxsim_explore.specs.Telling.{AreApart, CantBeLooked, HasNoChanges, IsGoneThrough, IsReach, IsShown, IsSure, IsThrough, IsTold, MayBeLooked, moves_of}
+use Rattle.scxsim_explore.specs.Lists.{HasLists, IsKept}
 use Rattle.scxsim_explore.specs.Unfound.{concluded, misfit_of, reach_of}
 
 -- ---- of which lists it is said
@@ -61,20 +65,34 @@ reach_is b w c n end misfit is any looked some = record {
     of_some depth (inr (none, done)) = (done, inr (inr (at_end b c.last end none is)))
 
 -- what is written at the end
-pub ended : (form : Form) (w : WorkloadState) (s : SimState) (bounds : Bounds) (starts : Starts) (d : Depths) (n : Nones) (end : End) (a b : Option (List ℕ))
-    → IsEndOf bounds d.last end → d.misfit ≡ misfit_of end → n.bounds ≡ bounds → IfSome n.again (IsGoneThrough form w s n)
+pub ended : {E : Type 0} (r : Result Bool E) (form : Form) (w : WorkloadState) (s : SimState) (bounds : Bounds) (starts : Starts) (d : Depths) (n : Nones) (found : List ToldList) (end : End) (a b c e : Option (List ℕ))
+    → IsEndOf bounds d.last end → d.misfit ≡ misfit_of end → n.bounds ≡ bounds → AreApart found n → IfSome n.again (IsGoneThrough form w s n)
     → (n.reach ≡ None → reach_of end ≡ None) → (n.reach ≡ None → IsSome n.again ⊎ CantBeLooked bounds w)
     → IfSome n.reach (λ depth. (reach_of end ≡ Some depth) ⊎ ((reach_of end ≡ None) × (depth ≡ done_of d.last)))
-    → Appends a b (summary_text starts d n) → IsEnded form w s bounds a b
-ended form w s bounds starts d n end a b is misfit within again any looked some lines = record {
+    → All (IsKept bounds.mode w s) found → HasLists w s found n a b → Appends b c (search_text starts bounds.mode d) → IfOk r (λ (whole : Bool). Appends c e (memory_line whole))
+    → IfOk r (λ (whole : Bool). IsTold form w s bounds whole a e)
+ended (Ok whole) form w s bounds starts d n found end a b c e is misfit within apart again any looked some kept (most, others, lists) search memory = record {
+  found = found;
+  nones = n;
+  most = most;
   starts = starts;
   depths = d;
-  nones = n;
+  text = Appends-trans a b e _ _ lists (Appends-trans b c e _ _ search memory);
+  shown = λ k t l. (kept k t l).shown;
+  others = subst (λ (b : Bounds). All (IsShown b.mode w s) most) within others;
   bounds = within;
-  lines = lines;
+  apart = apart;
   reach = reach_is bounds w d n end misfit is any looked some;
   again = again;
 }
+ended (Err x) form w s bounds starts d n found end a b c e is misfit within apart again any looked some kept lists search memory = memory
+
+-- ---- sorts of which nothing was found
+
+-- some, and one more if there is room for it
+pub none_more : (P : Sort → Type 0) (old new : List Sort) (x : Sort) → All P old → P x → ((new ≡ old) ⊎ (new ≡ old ++ x ∷ [])) → All P new
+none_more P old new x all one (inl same) = subst (All P) (sym same) all
+none_more P old new x all one (inr more) = subst (All P) (sym more) (All-push P old x all one)
 
 -- ---- what is said after an audit
 
@@ -117,6 +135,12 @@ concluded_some (Ok false) done moves n m is =
 concluded_some (Err e) done moves n m is =
     subst (λ (x : Nones). IfSome x.reach (λ depth. (n.reach ≡ Some depth) ⊎ ((n.reach ≡ None) × (depth ≡ done)))) (sym is) (of_done done n.reach)
 
+-- sorts stay
+pub concluded_apart : {E : Type 0} (r : Result Bool E) (done : ℕ) (moves : Moves) (found : List ToldList) (n m : Nones) → m ≡ concluded r done moves n → AreApart found n → AreApart found m
+concluded_apart (Ok true) done moves found n m is h = subst (AreApart found) (sym is) (record { sorts = h.sorts; overtaken = h.overtaken })
+concluded_apart (Ok false) done moves found n m is h = subst (AreApart found) (sym is) (record { sorts = h.sorts; overtaken = h.overtaken })
+concluded_apart (Err e) done moves found n m is h = subst (AreApart found) (sym is) (record { sorts = h.sorts; overtaken = h.overtaken })
+
 -- and what is said of the audit is so
 pub concluded_again : {E : Type 0} (r : Result Bool E) (done : ℕ) (moves : Moves) (form : Form) (w : WorkloadState) (s : SimState) (n m : Nones) → m ≡ concluded r done moves n
     → MayBeLooked n.bounds w moves → (r ≡ Ok true → IsSure form n.bounds moves n.reach n.sorts s) → IfSome m.again (IsGoneThrough form w s m)
@@ -129,6 +153,10 @@ concluded_again (Err e) done moves form w s n m is may sure = subst (λ (x : Non
 -- states were not audited
 pub not_looked : (form : Form) (w : WorkloadState) (s : SimState) (n m : Nones) (reach : Option ℕ) → m ≡ record n { again = None; reach = reach } → IfSome m.again (IsGoneThrough form w s m)
 not_looked form w s n m reach is = subst (λ (x : Nones). IfSome x.again (IsGoneThrough form w s x)) (sym is) tt
+
+-- and sorts stay
+pub unlooked_apart : (found : List ToldList) (n m : Nones) (reach : Option ℕ) → m ≡ record n { again = None; reach = reach } → AreApart found n → AreApart found m
+unlooked_apart found n m reach is h = subst (AreApart found) (sym is) (record { sorts = h.sorts; overtaken = h.overtaken })
 
 -- nor is more said of lists then than the search did
 pub unlooked_some : (done : ℕ) (n m : Nones) → m ≡ record n { again = None; reach = n.reach } → IfSome m.reach (λ depth. (n.reach ≡ Some depth) ⊎ ((n.reach ≡ None) × (depth ≡ done)))

@@ -1,5 +1,5 @@
 -- Bounds that words name, and limits that words or machines are past.
-use Rattle.std.proofs.Common.{◌≡◌, ◌≢◌, ℕ, ◌<◌, ◌≤◌, ◌^◌, Bool, true, false, List, length, Option, Some, None, codes, option_map, bytes_eq, true≢false, refl, sym, ap, ◌∙◌, subst, arith}
+use Rattle.std.proofs.Common.{◌≡◌, ◌≢◌, ℕ, ◌<◌, ◌≤◌, true, false, List, length, Option, Some, None, codes, bytes_eq, true≢false, sym, ◌∙◌, subst, arith}
 use Rattle.std.proofs.lemmas.Slice.Eq.{bytes_eq-Decides}
 use Rattle.scx_maps.specs.Lending.{all_bytes}
 use Rattle.scx_load_workloads.specs.Limit.{numeral}

@@ -1,5 +1,5 @@
 -- The start of a search, of a run and of the texts that stand for it.
-use Rattle.std.proofs.Common.{◌≡◌, ℕ, List, Result, Ok, Err, sym, subst}
+use Rattle.std.proofs.Common.{ℕ, List, Result, Ok, Err, sym, ◌∙◌, subst}
 use Rattle.std.specs.Prelude.{IfOk}
 use Rattle.scx_load_workloads.specs.Workload.{WorkloadState}
 use Rattle.scx_sched.specs.Sim.{SimState}
@@ -16,9 +16,12 @@ use Rattle.scxsim_explore.specs.Beginning.{IsStart, IsStartOf}
 pub started : {E : Type 0} (policy workload : List ℕ) (b : Bounds) (w : WorkloadState) (s : SimState) (form : Form) (r : Result Start E) → IsRun policy workload w s → IsFormOf policy b form
     → IfOk r (IsStartOf w s form b) → IfOk r (IsStart policy workload b)
 started policy workload b w s form (Ok (Past limit)) run of_policy past = record { of_workload = w; first = s; run = run; is = past }
-started policy workload b w s form (Ok (Within begun v f)) run of_policy (same, machine, is, within) = record {
-  run = subst (λ (x : WorkloadState). IsRun policy workload x begun.machines) (sym same) (subst (λ (x : SimState). IsRun policy workload w x) (sym machine) run);
-  within = subst (λ (x : WorkloadState). IsWithin b x begun.machines) (sym same) (subst (λ (x : SimState). IsWithin b w x) (sym machine) within);
-  of_policy = subst (λ (x : Form). IsFormOf policy b x) (sym is) of_policy;
-}
+started policy workload b w s form (Ok (Within begun teller v f)) run of_policy (same, machine, second, is, within) = (
+  second ∙ sym machine,
+  record {
+    run = subst (λ (x : WorkloadState). IsRun policy workload x begun.machines) (sym same) (subst (λ (x : SimState). IsRun policy workload w x) (sym machine) run);
+    within = subst (λ (x : WorkloadState). IsWithin b x begun.machines) (sym same) (subst (λ (x : SimState). IsWithin b w x) (sym machine) within);
+    of_policy = subst (λ (x : Form). IsFormOf policy b x) (sym is) of_policy;
+  },
+)
 started policy workload b w s form (Err e) run of_policy begun = begun

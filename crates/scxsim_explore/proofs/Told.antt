@@ -1,72 +1,83 @@
 -- Lists that are told, one after another, and what is an answer.
 use Rattle.std.proofs.Common.{◌≡◌, ℕ, List, [], ◌∷◌, ◌++◌, Bool, true, false, Option, Some, None, Result, Ok, Err, inl, inr, option_map, refl, sym, ◌∙◌, subst}
-use Rattle.std.specs.Prelude.{OnOk, IfOk, IfSome, IsErr}
+use Rattle.std.proofs.lemmas.List.{append-nil}
+use Rattle.std.proofs.lemmas.List.Elements.{All-append, All-cons, All-nil, All-push}
+use Rattle.std.proofs.lemmas.Grind.{flat_map-append}
+use Rattle.std.proofs.KnownBytes.{Appends-nil, Appends-trans}
+use Rattle.std.specs.Prelude.{All, OnOk, IfOk, IfSome, IsErr, ◌⊎◌}
 use Rattle.std.specs.Io.KnownBytes.{Appends}
 use Rattle.scxsim_commands.specs.declared.refusal.Fault.{Fault}
 use Rattle.scx_load_workloads.specs.Workload.{WorkloadState}
 use Rattle.scx_sched_machine.specs.declared.events.Event.{Event}
 use Rattle.scx_sched.specs.Sim.{SimState}
 use Rattle.scxsim_trace.specs.Lines.{names_of}
-use Rattle.scx_explore_findings.specs.declared.finding.Finding.{Finding}
-use Rattle.scx_explore_findings.specs.Findings.{Shows}
+use Rattle.scx_explore_findings.specs.Path.{IsAs}
 use Rattle.scx_explore_states.specs.declared.form.Form.{Form}
 use Rattle.scx_explore_bounds.specs.declared.bounds.Bounds.{Bounds}
 use Rattle.scx_explore_bounds.specs.declared.bounds.Mode.{Mode}
 use Rattle.scx_explore_bounds.specs.declared.bounds.Mode.TheVariants as mode
-use Rattle.scxsim_explore_lines.specs.Found.{told_text}
-use Rattle.scxsim_explore_lines.specs.Summary.{memory_line}
+use Rattle.scxsim_explore_lines.specs.Found.{ToldList, told_text, told_texts}
+use Rattle.scxsim_explore_lines.specs.Summary.{Nones, summary_text}
 use Rattle.scxsim_explore.specs.declared.limits.Limit.{Limit}
 use Rattle.scxsim_explore.specs.declared.limits.Lists.{Lists}
 use Rattle.scxsim_explore.specs.Words.{IsBoundsOf, IsPast, limit_line}
-use Rattle.scxsim_explore.specs.Telling.{HasFile, ToldList, AreTold, HasTold, IsEnded, IsTold, IsAnswer}
+use Rattle.scxsim_explore.specs.Telling.{HasFile, IsShown, IsTold, IsAnswer}
+use Rattle.scxsim_explore.specs.Lists.{HasLists, HasTold}
 use Rattle.scxsim_explore.specs.Beginning.{IsReady}
 
--- none
+-- no list
 pub told_nothing : (m : Mode) (w : WorkloadState) (s : SimState) (a : Option (List ℕ)) → HasTold m w s a a
-told_nothing m w s a = ([], refl)
+told_nothing m w s a = ([], All-nil (IsShown m w s), Appends-nil a)
 
 -- one
-pub told_one : {A E : Type 0} (r : Result A E) (m : Mode) (w : WorkloadState) (s : SimState) (f : Finding) (events : List Event) (file : Option (List ℕ)) (a b : Option (List ℕ))
-    → Shows w.homes s events f → HasFile m w s events file → OnOk r (Appends a b (told_text (names_of w) s f m events file)) → OnOk r (HasTold m w s a b)
-told_one (Ok x) m w s f events file a b shown has text = (record { finding = f; events = events; file = file } ∷ [], (b, shown, has, text, refl))
-told_one (Err x) m w s f events file a b shown has text = text
-
-told_append : (m : Mode) (w : WorkloadState) (s : SimState) (first next : List ToldList) (a b c : Option (List ℕ)) → AreTold m w s first a b → AreTold m w s next b c → AreTold m w s (first ++ next) a c
-told_append m w s [] next a b c h k = subst (λ (x : Option (List ℕ)). AreTold m w s next x c) h k
-told_append m w s (t ∷ first) next a b c (between, shown, file, text, rest) k = (between, shown, file, text, told_append m w s first next between b c rest k)
+pub told_one : {A E : Type 0} (r : Result A E) (m : Mode) (w : WorkloadState) (s : SimState) (t : ToldList) (a b : Option (List ℕ))
+    → IsShown m w s t → OnOk r (Appends a b (told_text (names_of w) s m t)) → OnOk r (HasTold m w s a b)
+told_one (Ok x) m w s t a b shown text = (t ∷ [], All-cons (IsShown m w s) t [] shown (All-nil (IsShown m w s)), subst (Appends a b) (sym (append-nil (told_text (names_of w) s m t))) text)
+told_one (Err x) m w s t a b shown text = text
 
 -- some, and then some more
 pub told_more : (m : Mode) (w : WorkloadState) (s : SimState) (a b c : Option (List ℕ)) → HasTold m w s a b → HasTold m w s b c → HasTold m w s a c
-told_more m w s a b c (first, h) (next, k) = (first ++ next, told_append m w s first next a b c h k)
+told_more m w s a b c (first, h, text) (next, k, more) =
+    let both = Appends-trans a b c _ _ text more in
+    (first ++ next, All-append (IsShown m w s) first next h k, subst (Appends a c) (sym (flat_map-append (told_text (names_of w) s m) first next)) both)
 
 -- the same, where the last ones may be cut off
 pub told_then : {A E : Type 0} (r : Result A E) (m : Mode) (w : WorkloadState) (s : SimState) (a b c : Option (List ℕ)) → HasTold m w s a b → OnOk r (HasTold m w s b c) → OnOk r (HasTold m w s a c)
 told_then (Ok x) m w s a b c first next = told_more m w s a b c first next
 told_then (Err x) m w s a b c first next = next
 
--- some, then the summary, and the line after it if there is one
-pub told_and_end : {E : Type 0} (r : Result Bool E) (form : Form) (w : WorkloadState) (s : SimState) (bounds : Bounds) (a b c d : Option (List ℕ))
-    → HasTold bounds.mode w s a b → IsEnded form w s bounds b c → IfOk r (λ (whole : Bool). Appends c d (memory_line whole)) → IfOk r (λ (whole : Bool). IsTold form w s bounds whole a d)
-told_and_end (Ok whole) form w s bounds a b c d told end last = (b, c, told, end, last)
-told_and_end (Err x) form w s bounds a b c d told end last = last
+-- the summary, its lists, and others
+pub lists_told : {A E : Type 0} (r : Result A E) (w : WorkloadState) (s : SimState) (found : List ToldList) (n : Nones) (a b c d : Option (List ℕ))
+    → Appends a b (summary_text (names_of w) found n) → Appends b c (told_texts (names_of w) s n.bounds.mode found) → OnOk r (HasTold n.bounds.mode w s c d) → OnOk r (HasLists w s found n a d)
+lists_told (Ok x) w s found n a b c d summary lists (most, shown, text) = (most, shown, Appends-trans a c d _ _ (Appends-trans a b c _ _ summary lists) text)
+lists_told (Err x) w s found n a b c d summary lists more = more
 
--- some so far, with the machine that stays, and no write has failed
-pub record IsSoFar (m : Mode) (w : WorkloadState) (s t : SimState) (a b : Option (List ℕ)) (n o : ℕ) : Type 0 where
+-- some so far, with the machine that stays and its teller, and no write has failed
+pub record IsSoFar (m : Mode) (w : WorkloadState) (s t teller : SimState) (a b : Option (List ℕ)) (n o : ℕ) : Type 0 where
   pub same : t ≡ s
+  pub alike : IsAs s teller
   pub told : HasTold m w s a b
   pub unfailed : o ≡ n
 
 -- none so far
-pub none_so_far : (m : Mode) (w : WorkloadState) (s : SimState) (a : Option (List ℕ)) (n : ℕ) → IsSoFar m w s s a a n n
-none_so_far m w s a n = record { same = refl; told = told_nothing m w s a; unfailed = refl }
+pub none_so_far : (m : Mode) (w : WorkloadState) (s teller : SimState) (a : Option (List ℕ)) (n : ℕ) → IsAs s teller → IsSoFar m w s s teller a a n n
+none_so_far m w s teller a n alike = record { same = refl; alike = alike; told = told_nothing m w s a; unfailed = refl }
 
 -- and then some more
-pub more_so_far : (m : Mode) (w : WorkloadState) (s t u : SimState) (a b c : Option (List ℕ)) (n o p : ℕ) → IsSoFar m w s t a b n o → u ≡ t → HasTold m w t b c → p ≡ o → IsSoFar m w s u a c n p
-more_so_far m w s t u a b c n o p first same next unfailed = record {
+pub more_so_far : (m : Mode) (w : WorkloadState) (s t u v teller : SimState) (a b c : Option (List ℕ)) (n o p : ℕ)
+    → IsSoFar m w s t v a b n o → u ≡ t → IsAs t teller → HasTold m w t b c → p ≡ o → IsSoFar m w s u teller a c n p
+more_so_far m w s t u v teller a b c n o p first same alike next unfailed = record {
   same = same ∙ first.same;
+  alike = subst (λ (x : SimState). IsAs x teller) first.same alike;
   told = told_more m w s a b c first.told (subst (λ (x : SimState). HasTold m w x b c) first.same next);
   unfailed = unfailed ∙ first.unfailed;
 }
+
+-- lists that are kept, and one more if there is one
+pub kept_more : (P : ToldList → Type 0) (old new : List ToldList) (list : Option ToldList) → All P old → IfSome list P
+    → ((new ≡ old) ⊎ ((t : ToldList) × (list ≡ Some t) × (new ≡ old ++ t ∷ []))) → All P new
+kept_more P old new list all one (inl same) = subst (All P) (sym same) all
+kept_more P old new list all one (inr (t, some, more)) = subst (All P) (sym more) (All-push P old t all (subst (λ (o : Option ToldList). IfSome o P) some one))
 
 -- no file
 pub no_file : (m : Mode) (w : WorkloadState) (s : SimState) (events : List Event) → HasFile m w s events None

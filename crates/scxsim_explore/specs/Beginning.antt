@@ -24,10 +24,12 @@ pub record IsReady
 -- or the machine is past that limit
 abbrev pub IsStartOf : WorkloadState → SimState → Form → Bounds → Start → Type 0
 IsStartOf w first form b (Past limit) = IsPastIn b w first limit
-IsStartOf w first form b (Within begun v f) =
-    (v ≡ w) × (begun.machines ≡ first) × (f ≡ form) × IsWithin b w first
+IsStartOf w first form b (Within begun teller v f) =
+    (v ≡ w) × (begun.machines ≡ first) × (teller ≡ first) × (f ≡ form) × IsWithin b w first
 
--- the search of the texts begins within the bounds, or their run is past that limit
+-- the search of the texts begins within the bounds, and two machines are alike, or their run is
+-- past that limit
 abbrev pub IsStart : List ℕ → List ℕ → Bounds → Start → Type 0
 IsStart policy workload b (Past limit) = IsPastTexts policy workload b limit
-IsStart policy workload b (Within begun w form) = IsReady policy workload b w begun.machines form
+IsStart policy workload b (Within begun teller w form) =
+    (teller ≡ begun.machines) × IsReady policy workload b w begun.machines form

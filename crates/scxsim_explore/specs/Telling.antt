@@ -1,13 +1,13 @@
 -- The output of a search through lists of events.
-use Rattle.std.specs.Prelude.{◌≡◌, ℕ, ◌+◌, ◌-◌, ◌^◌, ◌≤◌, min, ⊤, ◌⊎◌, length, Bool, true, false, List, [], ◌∷◌, ◌++◌, Option, Some, None, IfSome, IsSome}
+use Rattle.std.specs.Prelude.{◌≡◌, ◌≢◌, ℕ, ◌+◌, ◌-◌, ◌^◌, ◌≤◌, min, ⊤, ◌⊎◌, length, All, Bool, true, false, List, [], ◌++◌, Option, Some, None, IfSome, IsSome}
 use Rattle.std.specs.Io.KnownBytes.{Appends}
 use Rattle.scx_load_workloads.specs.Workload.{WorkloadState}
 use Rattle.scx_sched_machine.specs.declared.events.Event.{Event}
 use Rattle.scx_sched.specs.Sim.{SimState}
-use Rattle.scxsim_trace.specs.Lines.{names_of}
+use Rattle.scxsim_trace.specs.Lines.{NameLists, names_of}
 use Rattle.scx_explore_findings.specs.declared.finding.Sort.{Sort}
-use Rattle.scx_explore_findings.specs.declared.finding.Finding.{Finding}
-use Rattle.scx_explore_findings.specs.Findings.{Shows}
+use Rattle.scx_explore_findings.specs.declared.finding.Sort.TheVariants as sort
+use Rattle.scx_explore_findings.specs.Findings.{Shows, sort_of}
 use Rattle.scx_explore_bounds.specs.Events.{most_events}
 use Rattle.scx_explore_bounds.specs.declared.bounds.Bounds.{Bounds}
 use Rattle.scx_explore_bounds.specs.declared.bounds.Mode.{Mode}
@@ -25,8 +25,8 @@ use Rattle.scx_explore.specs.Ends.{HasNoNew, done_of}
 use Rattle.scxsim_simulation.specs.Runs.{IsRun}
 use Rattle.scxsim_explore.specs.declared.limits.Limit.{Limit}
 use Rattle.scxsim_explore.specs.declared.limits.Lists.{Lists}
-use Rattle.scxsim_explore_lines.specs.Found.{told_text}
-use Rattle.scxsim_explore_lines.specs.Summary.{Depths, Nones, memory_line, summary_text}
+use Rattle.scxsim_explore_lines.specs.Found.{ToldList, told_texts}
+use Rattle.scxsim_explore_lines.specs.Summary.{Depths, Nones, memory_line, search_text, summary_text}
 use Rattle.scxsim_explore.specs.Words.{IsBoundsOf, IsPast, IsWithin, limit_line}
 
 -- The text after the trace of a list, if there is one. A list of `events` has none. In the other
@@ -36,28 +36,11 @@ HasFile mode.Events w s events file = file ≡ None
 HasFile mode.Milliseconds w s events file = IfSome file (IsFileOf w s events)
 HasFile mode.Workloads w s events file = IfSome file (IsFileOf w s events)
 
--- a list of events, what is said to be found in it, and the workload file after its trace, if there
--- is one
-pub record ToldList : Type 0 where
-  pub finding : Finding
-  pub events : List Event
-  pub file : Option (List ℕ)
-
--- the machine shows each of the lists, and they are written one after another, each with its length
--- in that mode and its own file, if it has one
-abbrev pub AreTold :
-    Mode → WorkloadState → SimState → List ToldList → Option (List ℕ) → Option (List ℕ) → Type 0
-AreTold m w s [] old new = new ≡ old
-AreTold m w s (t ∷ ts) old new =
-    (between : Option (List ℕ)) × Shows w.homes s t.events t.finding
-    × HasFile m w s t.events t.file
-    × Appends old between
-    (told_text (names_of w) s t.finding m t.events t.file)
-    × AreTold m w s ts between new
-
--- lists are written, each of which the machine shows
-abbrev pub HasTold : Mode → WorkloadState → SimState → Option (List ℕ) → Option (List ℕ) → Type 0
-HasTold m w s old new = (told : List ToldList) × AreTold m w s told old new
+-- the machine shows that the list ends in what is said to be found in it, and its file is one of
+-- these, if it has one
+pub record IsShown (m : Mode) (w : WorkloadState) (s : SimState) (t : ToldList) : Type 0 where
+  pub ends : Shows w.homes s t.events t.finding
+  pub file : HasFile m w s t.events t.file
 
 -- ---- what is in none of the lists
 
@@ -126,33 +109,52 @@ pub record IsReach (b : Bounds) (w : WorkloadState) (d : Depths) (n : Nones) : T
   pub some : IfSome n.reach (λ depth. (depth ≡ done_of d.last) × IsThrough b d depth)
   pub misfit : IfSome d.misfit (λ depth. depth ≡ min (done_of d.last + 1) (2 ^ 64 - 1))
 
--- The summary is written of lists within the bounds: how far the search came, and what it found in
--- none of these lists. If a line says that states were audited, what the lines below it say holds.
--- Otherwise they are only what the search says.
-pub record IsEnded
-    (form : Form) (w : WorkloadState) (first : SimState) (b : Bounds)
-    (old new : Option (List ℕ)) : Type 0
-  where
-    pub starts : Starts
-    pub depths : Depths
-    pub nones : Nones
-    pub bounds : nones.bounds ≡ b
-    pub lines : Appends old new (summary_text starts depths nones)
-    pub reach : IsReach b w depths nones
-    pub again : IfSome nones.again (IsGoneThrough form w first nones)
+-- nothing of that sort was found in these lists
+abbrev pub HasNone : List ToldList → Sort → Type 0
+HasNone found x = All (λ t. sort_of t.finding ≢ Some x) found
+
+-- The summary says of no sort both that it was found and that it wasn't.
+pub record AreApart (found : List ToldList) (n : Nones) : Type 0 where
+  pub sorts : All (HasNone found) n.sorts
+  pub overtaken : n.overtaken ≡ true → HasNone found sort.Overtaken
 
 -- ---- all of it
 
--- lists are written, each of which the machine shows, then the summary, and then a line if memory
--- ran out
-abbrev pub IsTold :
-    Form → WorkloadState → SimState → Bounds → Bool → Option (List ℕ) → Option (List ℕ) → Type 0
-IsTold form w s b whole old new =
-    (between : Option (List ℕ)) × (end : Option (List ℕ)) × HasTold b.mode w s old between
-    × IsEnded form w s b between end × Appends end new (memory_line whole)
+-- the summary, the lists of its lines, and those of the longest wait and the most instructions
+abbrev pub lists_text : NameLists → SimState → List ToldList → Nones → List ToldList → List ℕ
+lists_text x s found n most =
+    summary_text x found n ++ told_texts x s n.bounds.mode found
+    ++ told_texts x s n.bounds.mode most
 
--- The output has lists within the bounds, each with its events and its trace, then the summary, and
--- a last line if memory ran out meanwhile. The machine of the texts accepts each list, and the list
+-- how far the search came, and a line if memory ran out
+abbrev pub last_text : Starts → Mode → Depths → Bool → List ℕ
+last_text starts m d whole = search_text starts m d ++ memory_line whole
+
+-- The text is written of lists within the bounds. The machine shows each list, those of which the
+-- summary says what was found in them and the others. If a line says that states were audited, what
+-- the summary says of lists in which nothing was found holds. Otherwise it is only what the search
+-- says.
+pub record IsTold
+    (form : Form) (w : WorkloadState) (first : SimState) (b : Bounds) (whole : Bool)
+    (old new : Option (List ℕ)) : Type 0
+  where
+    pub found : List ToldList
+    pub nones : Nones
+    pub most : List ToldList
+    pub starts : Starts
+    pub depths : Depths
+    pub text :
+        Appends old new
+        (lists_text (names_of w) first found nones most ++ last_text starts b.mode depths whole)
+    pub shown : All (IsShown b.mode w first) found
+    pub others : All (IsShown b.mode w first) most
+    pub bounds : nones.bounds ≡ b
+    pub apart : AreApart found nones
+    pub reach : IsReach b w depths nones
+    pub again : IfSome nones.again (IsGoneThrough form w first nones)
+
+-- The output has the summary, lists within the bounds, each with its events and its trace, and a
+-- last line if memory ran out meanwhile. The machine of the texts accepts each list, and the list
 -- ends in what is said of it. States have the form that the policy's programs decide. The machine
 -- is past no limit.
 pub record IsExplored

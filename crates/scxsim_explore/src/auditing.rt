@@ -1,8 +1,9 @@
-ghost use Rattle.std.specs.Prelude.{◌≡◌, ◌≢◌, ◌≤◌, ◌⊎◌, true, false, [], length, Some, None, Ok, IfSome, IfOk, IsSome, IsOk, IsErr};
+ghost use Rattle.std.specs.Prelude.{◌≡◌, ◌≢◌, ◌≤◌, ◌⊎◌, true, false, [], List, length, Some, None, Ok, IfSome, IfOk, IsSome, IsOk, IsErr};
+ghost use Rattle.scxsim_explore_lines.specs.Found.{ToldList};
 ghost use Rattle.scxsim_explore_lines.specs.Summary.{nones_of};
 ghost use Rattle.scx_explore_bounds.specs.Events.{most_events};
 ghost use Rattle.scx_explore.specs.Ends.{done_of};
-ghost use Rattle.scxsim_explore.specs.Telling.{CantBeLooked, HasNoChanges, IsGoneThrough, IsSure, MayBeLooked, moves_of};
+ghost use Rattle.scxsim_explore.specs.Telling.{AreApart, CantBeLooked, HasNoChanges, IsGoneThrough, IsSure, MayBeLooked, moves_of};
 ghost use Rattle.scxsim_explore.specs.Unfound.{concluded};
 
 use crate::beginning::Begun;
@@ -36,6 +37,8 @@ pub(crate) fn look_again<'a>(
     unfound: Unfound<'a>,
 ) -> Audited<'a>
     ensures bounds { result.unfound.bounds ≡ unfound.entry.bounds }
+    ensures apart { (found : List ToldList) → AreApart found (nones_of unfound.entry)
+        → AreApart found (nones_of result.unfound) }
     ensures again { IfSome result.unfound.again
         (IsGoneThrough form about.now begun.now.machines (nones_of result.unfound)) }
     ensures any { result.unfound.reach ≡ None → unfound.entry.reach ≡ None }

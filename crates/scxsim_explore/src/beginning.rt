@@ -46,7 +46,7 @@ pub(crate) struct Begun {
     pub(crate) machines: Machines,
     /// The list at hand.
     pub(crate) events: Vec<Event>,
-    /// True unless memory ran out for the workload file of a list.
+    /// True unless memory ran out for a list or its workload file.
     pub(crate) is_whole: bool,
 }
 
@@ -65,6 +65,8 @@ pub(crate) enum Start {
     /// The search of a workload, with what is kept of a state.
     Within {
         begun: Begun,
+        /// The machine that runs lists as they are written.
+        teller: Sim,
         about: Workload,
         form: Form,
     },
@@ -136,11 +138,63 @@ fn start_of_run(alloc: Global, run: Run, setup: Setup, bounds: Bounds) -> Result
         return Ok(Start::Past(limit));
     }
     let form = setup.form;
-    match begin(alloc, &about, sim, setup, bounds) {
-        Ok(begun) => Ok(Start::Within { begun, about, form }),
+    match begin_both(alloc, &about, sim, setup, bounds) {
+        Ok((begun, teller)) => Ok(Start::Within {
+            begun,
+            teller,
+            about,
+            form,
+        }),
         Err(AllocError) => {
             drop(about);
             Err(Refusal::NoMemory)
+        }
+    }
+}
+
+/// Begins the search from that machine, and makes the machine that runs lists as they are written.
+///
+/// # Errors
+///
+/// Memory runs out.
+fn begin_both(
+    alloc: Global,
+    about: &Workload,
+    first: Sim,
+    setup: Setup,
+    bounds: Bounds,
+) -> Result<(Begun, Sim), AllocError>
+    ensures { IfOk result (λ both. (both.0.machines ≡ first) × (both.1 ≡ first)) }
+{
+    match first.duplicate(alloc) {
+        Ok(teller) => begin_with(alloc, about, first, teller, setup, bounds),
+        Err(AllocError) => {
+            drop(first);
+            Err(AllocError)
+        }
+    }
+}
+
+/// Begins the search from the first machine, beside the second one.
+///
+/// # Errors
+///
+/// Memory runs out.
+fn begin_with(
+    alloc: Global,
+    about: &Workload,
+    first: Sim,
+    teller: Sim,
+    setup: Setup,
+    bounds: Bounds,
+) -> Result<(Begun, Sim), AllocError>
+    ensures { IfOk result (λ both. (both.0.machines ≡ first) × (both.1 ≡ teller)) }
+{
+    match begin(alloc, about, first, setup, bounds) {
+        Ok(begun) => Ok((begun, teller)),
+        Err(AllocError) => {
+            drop(teller);
+            Err(AllocError)
         }
     }
 }
@@ -206,12 +260,12 @@ fn search_of(
     Search::new(alloc, form, bounds, root, machines, about, ROOM)
 }
 
-/// The number of machines that tell what was found. One runs a list again, and one writes its trace. For each list of
-/// milliseconds two more look for its workload file.
+/// The number of machines that show what was found: one runs a list again. For each list of milliseconds two more look
+/// for its workload file.
 fn told_by(mode: Mode) -> usize {
     match mode {
-        Mode::Events => 2,
-        Mode::Milliseconds | Mode::Workloads => 2 + 2 * MOST_TOLD,
+        Mode::Events => 1,
+        Mode::Milliseconds | Mode::Workloads => 1 + 2 * MOST_TOLD,
     }
 }
 

@@ -16,8 +16,9 @@ use scxsim_output::{Out, write_all};
 use std::alloc::Global;
 
 /// Tries all lists of events that the words name and that the machine of a policy file and of a workload file accepts,
-/// and writes what it finds. The answer is true. It is false if the words or the machine are past a limit, which is
-/// written instead, and if memory ran out after the first line was written, which the last line says.
+/// and writes what it finds. Nothing is written before the search and its audit are over. The answer is true. It is false
+/// if the words or the machine are past a limit, which is written instead, and if memory ran out for a list, a workload
+/// file or the audit, which the last line says.
 ///
 /// # Errors
 ///
@@ -30,9 +31,9 @@ pub fn explore<V: Watcher, W: Out>(
     watcher: &mut V,
     out: &mut W,
 ) -> Result<bool, Fault>
-    // Lists within the bounds that the words name are written that the machine of the texts shows, each with its
-    // trace, and then what was found in none, and whether memory ran out; or the first limit that the words or the
-    // machine are past.
+    // What was found in lists within the bounds that the words name is written, and what was found in none. Then
+    // follow these lists, which the machine of the texts shows, each with its trace, and whether memory ran out. Or the
+    // first limit is written that the words or the machine are past.
     ensures done { IfOk result (λ answer. IsAnswer answer policy.now workload.now lists.entry
         (W.contents out.old) (W.contents out.new)) }
     ensures unfailed { OnOk result (W.failure_count out.new ≡ W.failure_count out.old) }
@@ -50,10 +51,17 @@ pub fn explore<V: Watcher, W: Out>(
     };
     match start_of_texts(alloc, policy, workload, bounds)? {
         Start::Past(limit) => refuse(limit, out),
-        Start::Within { begun, about, form } => {
+        Start::Within {
+            begun,
+            teller,
+            about,
+            form,
+        } => {
             let mut begun = begun;
-            let told = tell(&mut begun, form, &about, bounds, watcher, out);
+            let mut teller = teller;
+            let told = tell(&mut begun, &mut teller, form, &about, bounds, watcher, out);
             drop(begun);
+            drop(teller);
             drop(about);
             Ok(told?)
         }

@@ -1,36 +1,38 @@
-ghost use Rattle.std.specs.Prelude.{◌≡◌, true, OnOk, option_map};
+ghost use Rattle.std.specs.Prelude.{◌≡◌, true, All, OnOk};
+ghost use Rattle.std.specs.Io.KnownBytes.{Appends};
 ghost use Rattle.scxsim_output.specs.Output.{Counts};
+ghost use Rattle.scxsim_trace.specs.Lines.{names_of};
+ghost use Rattle.scxsim_explore_lines.specs.Found.{told_text, told_texts};
 ghost use Rattle.scx_load_driver.specs.Runs.{stepped_all};
 ghost use Rattle.scx_explore_findings.specs.Path.{IsAs};
 ghost use Rattle.scx_explore_findings.specs.Findings.{Shows};
-ghost use Rattle.scxsim_explore.specs.Telling.{HasFile, HasTold};
+ghost use Rattle.scxsim_explore.specs.Lists.{IsKept};
 
-use scx_explore::{Finding, shows};
+use crate::machines::Machines;
+use scx_explore::{Finding, Mode, shows};
 use scx_load_workloads::Workload;
 use scx_sched::{Event, Sim};
 use scxsim_explore_lines::{Told, write_told};
 use scxsim_output::{Failed, Out};
 
-/// Writes what was found, its list and the list's trace, if the first machine shows that the list ends so. The second
-/// machine is in the same state.
-pub(crate) fn write_if_shown<W: Out>(
-    first: &mut Sim,
-    second: &mut Sim,
+/// True if a machine that wasn't searched shows that the list ends so.
+pub(crate) fn is_shown(
+    machines: &mut Machines,
     about: &Workload,
-    told: Told<'_>,
-    out: &mut W,
-) -> Result<(), Failed>
-    requires same { first.old ≡ second.old }
-    requires file { HasFile told.mode about.now second.old told.events.now
-        (option_map (λ file. file.now) told.file) }
-    ensures told { OnOk result
-        (HasTold told.entry.mode about.now second.old (W.contents out.old) (W.contents out.new)) }
-    ensures first { IsAs first.old first.new }
-    ensures second { OnOk result (IsAs second.old second.new) }
-    ensures failures { Counts result (W.failure_count out.old) (W.failure_count out.new) }
+    events: &[Event],
+    finding: Finding,
+) -> bool
+    ensures same { machines.new ≡ machines.old }
+    ensures shown { result ≡ true → Shows about.now.homes machines.old events.now finding }
+    ensures alike { result ≡ true → IsAs machines.old (stepped_all machines.old events.now) }
 {
-    let is_shown = does_show(first, about.tasks(), told.events, told.finding);
-    write_where(is_shown, second, about, told, out)
+    let Some(sim) = machines.take() else {
+        return false;
+    };
+    let mut sim = sim;
+    let is_shown = does_show(&mut sim, about.tasks(), events, finding);
+    machines.give_back(sim);
+    is_shown
 }
 
 /// True if the policy is in force and the list ends so.
@@ -42,27 +44,52 @@ fn does_show(sim: &mut Sim, homes: &[u32], events: &[Event], finding: Finding) -
     sim.ejected().is_none() && shows(sim, homes, events, finding)
 }
 
-/// Writes it if it is shown.
-fn write_where<W: Out>(
-    is_shown: bool,
-    sim: &mut Sim,
+/// Writes lists one after another. The teller runs each of them from the state of the first machine.
+pub(crate) fn write_lists<W: Out>(
+    first: &Sim,
+    teller: &mut Sim,
     about: &Workload,
-    told: Told<'_>,
+    mode: Mode,
+    lists: &[Told],
     out: &mut W,
 ) -> Result<(), Failed>
-    requires shown { is_shown ≡ true
-        → Shows about.now.homes sim.old told.events.now told.finding }
-    requires alike { is_shown ≡ true → IsAs sim.old (stepped_all sim.old told.events.now) }
-    requires file { HasFile told.mode about.now sim.old told.events.now
-        (option_map (λ file. file.now) told.file) }
-    ensures told { OnOk result
-        (HasTold told.entry.mode about.now sim.old (W.contents out.old) (W.contents out.new)) }
-    ensures alike { OnOk result (IsAs sim.old sim.new) }
+    requires kept { All (IsKept mode about.now first.now) lists.now }
+    requires alike { IsAs first.now teller.old }
+    ensures alike { OnOk result (IsAs first.now teller.new) }
+    ensures told { OnOk result (Appends (W.contents out.old) (W.contents out.new)
+        (told_texts (names_of about.now) first.now mode lists.now)) }
     ensures failures { Counts result (W.failure_count out.old) (W.failure_count out.new) }
 {
-    if is_shown {
-        write_told(sim, about, told, out)
-    } else {
-        Ok(())
+    for list in lists {
+        write_list(first, teller, about, mode, list, out)?;
     }
+    Ok(())
+}
+
+/// Writes a list. The teller runs it from the state of the first machine.
+pub(crate) fn write_list<W: Out>(
+    first: &Sim,
+    teller: &mut Sim,
+    about: &Workload,
+    mode: Mode,
+    list: &Told,
+    out: &mut W,
+) -> Result<(), Failed>
+    requires kept { IsKept mode about.now first.now list.now }
+    requires alike { IsAs first.now teller.old }
+    ensures alike { OnOk result (IsAs first.now teller.new) }
+    ensures told { OnOk result (Appends (W.contents out.old) (W.contents out.new)
+        (told_text (names_of about.now) first.now mode list.now)) }
+    ensures failures { Counts result (W.failure_count out.old) (W.failure_count out.new) }
+{
+    begin_anew(teller, first);
+    write_told(teller, about, mode, list, out)
+}
+
+/// Makes the teller a copy of the first machine.
+fn begin_anew(teller: &mut Sim, first: &Sim)
+    requires { IsAs first.now teller.old }
+    ensures { teller.new ≡ first.now }
+{
+    teller.copy_from(first);
 }

@@ -1,74 +1,68 @@
-ghost use Rattle.std.specs.Prelude.{◌≡◌, false, None, IfSome, IfOk, IsOk, IsErr, OnOk, option_map, string_bytes};
+ghost use Rattle.std.specs.Prelude.{◌≡◌, ◌⊎◌, ◌∷◌, ◌++◌, [], All, Some, false, None, IfSome, IfOk, IsOk, IsErr, OnOk, option_map, string_bytes};
 ghost use Rattle.scx_explore.specs.Ends.{IsEndOf};
+ghost use Rattle.scx_explore_findings.specs.Path.{IsAs};
 ghost use Rattle.scx_explore_workloads.specs.Files.{IsFileOf};
 ghost use Rattle.scxsim_output.specs.Output.{Counts};
-ghost use Rattle.scxsim_explore.specs.Telling.{HasFile, HasTold, IsTold};
+ghost use Rattle.scxsim_explore_lines.specs.Found.{ToldList};
+ghost use Rattle.scxsim_explore.specs.Telling.{HasFile, IsTold};
+ghost use Rattle.scxsim_explore.specs.Lists.{IsKept};
 
 use crate::beginning::Begun;
 use crate::ending::write_end;
 use crate::machines::Machines;
-use crate::showing::write_if_shown;
+use crate::showing::is_shown;
 use crate::watcher::Watcher;
 use scx_explore::{Bounds, Course, End, Form, Found, Mode, SORTS, Search};
 use scx_explore_workloads::workload_file;
-use scx_isa::CALLBACKS;
 use scx_load_workloads::Workload;
 use scx_sched::{Event, Sim};
-use scxsim_explore_lines::{Told, write_memory};
+use scxsim_explore_lines::Told;
 use scxsim_output::{Failed, Out};
-use std::alloc::AllocError;
+use std::alloc::{AllocError, Global};
 
 /// The number of states after which a watcher is told of them.
 const PACE: u64 = 1024;
 
-/// Writes what the search finds, as it does, and at its end how far it came. The answer is false if memory ran out
+/// Searches the lists, and writes what was found and how far the search came. The answer is false if memory ran out
 /// meanwhile, which the last line says.
 pub(crate) fn tell<V: Watcher, W: Out>(
     begun: &mut Begun,
+    teller: &mut Sim,
     form: Form,
     about: &Workload,
     bounds: Bounds,
     watcher: &mut V,
     out: &mut W,
 ) -> Result<bool, Failed>
+    requires { IsAs begun.old.machines teller.old }
     ensures ok { IfOk result (λ whole. IsTold form about.now begun.old.machines bounds
         whole (W.contents out.old) (W.contents out.new)) }
     ensures failures { Counts result (W.failure_count out.old) (W.failure_count out.new) }
 {
     let mut course = Course::new(bounds);
-    let end = search(begun, about, &mut course, watcher, out)?;
-    watcher.pause();
-    write_most(begun, about, bounds.mode, out)?;
-    let is_whole = write_end(begun, form, about, &course, end, out)?;
-    write_memory(is_whole, out)
+    let end = search(&mut begun.search, &mut course, watcher);
+    let found = gather_found(begun, about, bounds.mode);
+    let lists = found.as_slice();
+    let told = write_end(
+        begun, teller, form, about, &course, end, lists, watcher, out,
+    );
+    drop(found);
+    told
 }
 
-/// Searches the lists, and writes the findings.
-fn search<V: Watcher, W: Out>(
-    begun: &mut Begun,
-    about: &Workload,
-    course: &mut Course,
-    watcher: &mut V,
-    out: &mut W,
-) -> Result<End, Failed>
-    ensures same { begun.new.machines ≡ begun.old.machines }
+/// Searches the lists.
+fn search<V: Watcher>(search: &mut Search, course: &mut Course, watcher: &mut V) -> End
     ensures bounds { course.new.bounds ≡ course.old.bounds }
-    ensures end { IfOk result (IsEndOf course.new.bounds course.new.last) }
-    ensures told { OnOk result (HasTold course.old.bounds.mode about.now begun.old.machines
-        (W.contents out.old) (W.contents out.new)) }
-    ensures failures { Counts result (W.failure_count out.old) (W.failure_count out.new) }
+    ensures end { IsEndOf course.new.bounds course.new.last result }
 {
-    let mut shown = 0;
     for count in 0..u64::MAX {
-        tell_watcher(count, &begun.search, course, watcher);
-        let progress = begun.search.go_on();
-        let more = write_new(begun, about, shown, course.bounds.mode, watcher, out)?;
-        shown = more;
+        tell_watcher(count, search, course, watcher);
+        let progress = search.go_on();
         if let Some(end) = course.end_after(progress) {
-            return Ok(end);
+            return end;
         }
     }
-    Ok(End::Full(course.done()))
+    End::Full(course.done())
 }
 
 /// Tells the watcher how far the search is, if that is due before the `count`th state.
@@ -78,82 +72,78 @@ fn tell_watcher<V: Watcher>(count: u64, search: &Search, course: &Course, watche
     }
 }
 
-/// Writes what was found after the first `shown`, and returns how many were found.
-fn write_new<V: Watcher, W: Out>(
-    begun: &mut Begun,
-    about: &Workload,
-    shown: usize,
-    mode: Mode,
-    watcher: &mut V,
-    out: &mut W,
-) -> Result<usize, Failed>
+/// Gathers the lists of what was found, in the order in which it was, as far as machines that weren't searched show it
+/// too.
+fn gather_found(begun: &mut Begun, about: &Workload, mode: Mode) -> Vec<Told>
     ensures same { begun.new.machines ≡ begun.old.machines }
-    ensures told { OnOk result (HasTold mode about.now begun.old.machines
-        (W.contents out.old) (W.contents out.new)) }
-    ensures failures { Counts result (W.failure_count out.old) (W.failure_count out.new) }
+    ensures kept { All (IsKept mode about.now begun.old.machines) result.items }
 {
-    for place in shown..SORTS.len() {
-        let Some(found) = begun.search.found(place) else {
-            return Ok(place);
-        };
-        watcher.pause();
-        write_one(begun, about, mode, Some(found), out)?;
+    let mut lists = Vec::new(begun.machines.alloc());
+    for place in 0..SORTS.len() {
+        let found = begun.search.found(place);
+        let list = list_of(begun, about, mode, found);
+        add(&mut lists, list, &mut begun.is_whole);
     }
-    Ok(SORTS.len())
+    lists
 }
 
-/// Writes the longest wait, if there is one, and the most instructions of each callback that was called.
-fn write_most<W: Out>(
-    begun: &mut Begun,
-    about: &Workload,
-    mode: Mode,
-    out: &mut W,
-) -> Result<(), Failed>
-    ensures same { begun.new.machines ≡ begun.old.machines }
-    ensures told { OnOk result (HasTold mode about.now begun.old.machines
-        (W.contents out.old) (W.contents out.new)) }
-    ensures failures { Counts result (W.failure_count out.old) (W.failure_count out.new) }
+/// Adds the list, if there is one. If there is no memory for it, `are_whole` becomes false.
+fn add(lists: &mut Vec<Told>, list: Option<Told>, are_whole: &mut bool)
+    ensures { lists.new.items ≡ lists.old.items
+        ⊎ ((t : ToldList) × (list ≡ Some t) × (lists.new.items ≡ lists.old.items ++ t ∷ [])) }
 {
-    let wait = begun.search.longest_wait();
-    write_one(begun, about, mode, wait, out)?;
-    for callback in CALLBACKS {
-        let most = begun.search.most_instructions(callback);
-        write_one(begun, about, mode, most, out)?;
+    let Some(list) = list else {
+        return;
+    };
+    match lists.push(list) {
+        Ok(()) => {}
+        Err(failed) => {
+            drop(failed);
+            *are_whole = false;
+        }
     }
-    Ok(())
 }
 
-/// Writes what was found, its list and the list's trace, if something was found and machines that weren't searched show
-/// it too.
-#[tactic(auto, using(crate::proofs::Told::told_nothing))]
-fn write_one<W: Out>(
+/// The list of what was found, if something was and a machine that wasn't searched shows it too. If memory runs out for
+/// the list, there is none, and the search isn't whole.
+pub(crate) fn list_of(
     begun: &mut Begun,
     about: &Workload,
     mode: Mode,
     found: Option<Found>,
-    out: &mut W,
-) -> Result<(), Failed>
+) -> Option<Told>
     ensures same { begun.new.machines ≡ begun.old.machines }
-    ensures told { OnOk result (HasTold mode about.now begun.old.machines
-        (W.contents out.old) (W.contents out.new)) }
-    ensures failures { Counts result (W.failure_count out.old) (W.failure_count out.new) }
+    ensures kept { IfSome result (IsKept mode about.now begun.old.machines) }
 {
     let Some(found) = found else {
-        return Ok(());
+        return None;
     };
     begun.search.list_of(found, &mut begun.events);
     let events = begun.events.as_slice();
+    if !is_shown(&mut begun.machines, about, events, found.finding) {
+        return None;
+    }
+    let Some(copy) = copied(begun.machines.alloc(), events) else {
+        begun.is_whole = false;
+        return None;
+    };
     let found_file = file_in(mode, &mut begun.machines, about, events);
     let file = file_or_none(found_file, &mut begun.is_whole);
-    let told = Told {
-        finding: found.finding,
-        mode,
-        events,
-        file: text_of(&file),
-    };
-    let written = write_with(&mut begun.machines, about, told, out);
-    drop(file);
-    written
+    Some(Told::new(found.finding, copy, file))
+}
+
+/// A copy of the events, if there is memory for it.
+fn copied(alloc: Global, events: &[Event]) -> Option<Vec<Event>>
+    ensures { IfSome result (λ copy. copy.items ≡ events.now) }
+{
+    let mut copy = Vec::new(alloc);
+    match copy.extend_from_slice(events) {
+        Ok(()) => Some(copy),
+        Err(AllocError) => {
+            drop(copy);
+            None
+        }
+    }
 }
 
 /// Returns the file if there is one. If memory ran out for it, `is_whole` becomes false.
@@ -169,15 +159,6 @@ fn file_or_none(file: Result<Option<String>, AllocError>, is_whole: &mut bool) -
             *is_whole = false;
             None
         }
-    }
-}
-
-fn text_of(file: &Option<String>) -> Option<&str>
-    ensures { option_map (λ text. text.now) result ≡ option_map string_bytes file.now }
-{
-    match file {
-        Some(text) => Some(text.as_str()),
-        None => None,
     }
 }
 
@@ -224,65 +205,4 @@ fn file_of(
     drop(first);
     drop(second);
     file
-}
-
-/// Writes what is told with two of the machines, of which there are enough.
-#[tactic(auto, using(crate::proofs::Told::told_nothing))]
-fn write_with<W: Out>(
-    machines: &mut Machines,
-    about: &Workload,
-    told: Told<'_>,
-    out: &mut W,
-) -> Result<(), Failed>
-    requires { HasFile told.mode about.now machines.old told.events.now
-        (option_map (λ file. file.now) told.file) }
-    ensures same { machines.new ≡ machines.old }
-    ensures told { OnOk result (HasTold told.entry.mode about.now machines.old
-        (W.contents out.old) (W.contents out.new)) }
-    ensures failures { Counts result (W.failure_count out.old) (W.failure_count out.new) }
-{
-    let Some(first) = machines.take() else {
-        return Ok(());
-    };
-    match machines.take() {
-        Some(second) => write_by(machines, first, second, about, told, out),
-        None => {
-            drop(first);
-            Ok(())
-        }
-    }
-}
-
-/// Writes what is told with these machines, which are given back if nothing fails.
-fn write_by<W: Out>(
-    machines: &mut Machines,
-    first: Sim,
-    second: Sim,
-    about: &Workload,
-    told: Told<'_>,
-    out: &mut W,
-) -> Result<(), Failed>
-    requires first { first ≡ machines.old }
-    requires second { second ≡ machines.old }
-    requires file { HasFile told.mode about.now machines.old told.events.now
-        (option_map (λ file. file.now) told.file) }
-    ensures same { machines.new ≡ machines.old }
-    ensures told { OnOk result (HasTold told.entry.mode about.now machines.old
-        (W.contents out.old) (W.contents out.new)) }
-    ensures failures { Counts result (W.failure_count out.old) (W.failure_count out.new) }
-{
-    let mut first = first;
-    let mut second = second;
-    match write_if_shown(&mut first, &mut second, about, told, out) {
-        Ok(()) => {
-            machines.give_back(first);
-            machines.give_back(second);
-            Ok(())
-        }
-        Err(Failed) => {
-            drop(first);
-            drop(second);
-            Err(Failed)
-        }
-    }
 }

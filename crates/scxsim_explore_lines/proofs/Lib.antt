@@ -1,3 +1,3 @@
 mod Rest
 mod Clocks
-mod Written
+pub mod Written

@@ -20,13 +20,13 @@ use Rattle.scx_explore_bounds.specs.declared.bounds.Mode.TheVariants as mode
 -- a CPU is idle while a task waits
 abbrev pub idle_words : NameLists → ℕ → ℕ → List ℕ
 idle_words x c t =
-    (codes "found idle cpu " ++ decimal c ++ codes " while ")
+    (codes "idle cpu " ++ decimal c ++ codes " while ")
     ++ (codes "" ++ task_name x t ++ codes " waits")
 
 -- a task waits while another one began to run twice
 abbrev pub overtaken_words : NameLists → ℕ → ℕ → List ℕ
 overtaken_words x t u =
-    (codes "found overtaken " ++ task_name x t ++ codes " by ")
+    (codes "overtaken " ++ task_name x t ++ codes " by ")
     ++ (codes "" ++ task_name x u ++ codes "")
 
 -- a task waits for that many milliseconds
@@ -42,9 +42,9 @@ most_words b n =
 
 -- what was found
 abbrev pub finding_words : NameLists → Finding → List ℕ
-finding_words x (Fault f) = codes "found fault " ++ decimal (fault_number f) ++ codes ""
-finding_words x (Stall t) = codes "found stall of " ++ task_name x t ++ codes ""
-finding_words x (Exit n) = codes "found exit " ++ signed_decimal n ++ codes ""
+finding_words x (Fault f) = codes "fault " ++ decimal (fault_number f) ++ codes ""
+finding_words x (Stall t) = codes "stall of " ++ task_name x t ++ codes ""
+finding_words x (Exit n) = codes "exit " ++ signed_decimal n ++ codes ""
 finding_words x (Idle c t) = idle_words x c t
 finding_words x (Overtaken p) = overtaken_words x p.waits p.runs
 finding_words x (Waits t ms) = wait_words x t ms
@@ -81,11 +81,32 @@ unit mode.Events n = if nat_eq n 1 then codes " event\n" else codes " events\n"
 unit mode.Milliseconds n = codes " ms\n"
 unit mode.Workloads n = codes " ms\n"
 
--- the line of what was found in a list of that length
+-- the words before what was found, at the head of a list
+abbrev pub head_word : Finding → List ℕ
+head_word (Fault f) = codes "found "
+head_word (Stall t) = codes "found "
+head_word (Exit n) = codes "found "
+head_word (Idle c t) = codes "found "
+head_word (Overtaken p) = codes "found "
+head_word (Waits t ms) = codes ""
+head_word (Takes b n) = codes ""
+
+-- what was found in a list of that length
+abbrev pub length_line : NameLists → Finding → Mode → ℕ → List ℕ
+length_line x f m depth = finding_words x f ++ (codes " after " ++ decimal depth ++ unit m depth)
+
+-- the line at the head of such a list
 abbrev pub found_line : NameLists → Finding → Mode → ℕ → List ℕ
-found_line x f m depth = finding_words x f ++ (codes " after " ++ decimal depth ++ unit m depth)
+found_line x f m depth = head_word f ++ length_line x f m depth
 
 -- ---- the list
+
+-- A list of events, what is said to be found in it, and the workload file after its trace, if there
+-- is one.
+pub record ToldList : Type 0 where
+  pub finding : Finding
+  pub events : List Event
+  pub file : Option (List ℕ)
 
 -- the line of a group's new weight
 abbrev pub weight_line : NameLists → ℕ → ℕ → List ℕ
@@ -127,6 +148,9 @@ file_text None = codes "\n"
 file_text (Some file) = workload_text file
 
 -- all of it
-abbrev pub told_text :
-    NameLists → SimState → Finding → Mode → List Event → Option (List ℕ) → List ℕ
-told_text x s f m events file = list_text x s f m events ++ file_text file
+abbrev pub told_text : NameLists → SimState → Mode → ToldList → List ℕ
+told_text x s m t = list_text x s t.finding m t.events ++ file_text t.file
+
+-- lists, one after another
+abbrev pub told_texts : NameLists → SimState → Mode → List ToldList → List ℕ
+told_texts x s m lists = flat_map (told_text x s m) lists

@@ -1,5 +1,5 @@
--- The lines at the end of a search: instructions before any event, how far the search came, and
--- what is in none of the lists.
+-- The lines of a search: what was found and what is in none of the lists, instructions before any
+-- event, and how far the search came.
 use Rattle.std.specs.Prelude.{ℕ, List, [], ◌++◌, Bool, true, false, Option, Some, None, codes, decimal, flat_map}
 use Rattle.scx_isa_semantics.specs.declared.callbacks.Callback.{Callback}
 use Rattle.scx_isa_semantics.specs.declared.callbacks.Callback.TheVariants.{Init, Enable, SetWeight, UpdateIdle}
@@ -15,7 +15,8 @@ use Rattle.scx_explore.specs.declared.progress.Level.{Level}
 use Rattle.scx_explore.specs.declared.starts.Starts.{Starts}
 use Rattle.scxsim_explore_lines.specs.declared.summary.Reached.{Reached}
 use Rattle.scxsim_explore_lines.specs.declared.summary.Unfound.{Unfound}
-use Rattle.scxsim_explore_lines.specs.Found.{most_words}
+use Rattle.scxsim_trace.specs.Lines.{NameLists}
+use Rattle.scxsim_explore_lines.specs.Found.{ToldList, length_in, length_line, most_words}
 
 -- ---- before any event
 
@@ -169,17 +170,28 @@ nones_of u = record {
 -- the lines that say it
 abbrev pub nones_text : Nones → List ℕ
 nones_text n =
-    again_line n.again ++ none_lines n.bounds n.reach n.sorts
-    ++ overtaken_line n.bounds n.reach n.overtaken
+    none_lines n.bounds n.reach n.sorts
+    ++ overtaken_line n.bounds n.reach n.overtaken ++ again_line n.again
 
--- ---- all of it
+-- ---- the summary and the end
 
--- the summary: what callbacks take before any event, how far the search came, and what is in none
--- of the lists
-abbrev pub summary_text : Starts → Depths → Nones → List ℕ
-summary_text x d n = start_lines x ++ depth_lines n.bounds.mode d ++ nones_text n
+-- what was found in a list, with the list's length
+abbrev pub answer_line : NameLists → Mode → ToldList → List ℕ
+answer_line x m t = codes "found: " ++ length_line x t.finding m (length_in m t.events)
 
--- memory ran out after the first line, so that lines are missing
+-- a line for each list
+abbrev pub answer_lines : NameLists → Mode → List ToldList → List ℕ
+answer_lines x m lists = flat_map (answer_line x m) lists
+
+-- the first lines: what was found, what is in none of the lists, and an empty line
+abbrev pub summary_text : NameLists → List ToldList → Nones → List ℕ
+summary_text x found n = answer_lines x n.bounds.mode found ++ nones_text n ++ codes "\n"
+
+-- the last lines: what callbacks take before any event, and how far the search came
+abbrev pub search_text : Starts → Mode → Depths → List ℕ
+search_text x m d = start_lines x ++ depth_lines m d
+
+-- memory ran out for some lines, so that they are missing
 abbrev pub memory_line : Bool → List ℕ
 memory_line true = []
 memory_line false = codes "incomplete: out of memory\n"

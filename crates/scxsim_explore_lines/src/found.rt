@@ -3,11 +3,12 @@ ghost use Rattle.std.specs.Io.KnownBytes.{Appends};
 ghost use Rattle.scxsim_output.specs.Output.{Counts};
 ghost use Rattle.scx_load_driver.specs.Runs.{notes_of_all, stepped_all};
 ghost use Rattle.scxsim_trace.specs.Lines.{names_of, note_lines};
-ghost use Rattle.scxsim_explore_lines.specs.Found.{event_line, event_lines, file_text, finding_words, found_line, idle_words, length_in, list_text, most_words, overtaken_words, own_weight_line, told_text, unit, wait_words, weight_line, workload_text};
+ghost use Rattle.scxsim_explore_lines.specs.Found.{event_line, event_lines, file_text, finding_words, found_line, head_word, idle_words, length_in, length_line, list_text, most_words, overtaken_words, own_weight_line, told_text, unit, wait_words, weight_line, workload_text};
 
 use crate::lengths::length_in;
 use crate::listed::Listed;
 use crate::pieces::{write_number, write_signed, write_task, write_text};
+use crate::told::Told;
 use scx_explore::{Finding, Mode};
 use scx_isa::Callback;
 use scx_load_workloads::Workload;
@@ -15,50 +16,40 @@ use scx_sched::{Event, Sim};
 use scxsim_output::{Failed, Out, write_named};
 use scxsim_trace::{Names, write_run};
 
-/// A list of events of that mode, and what is found at its end.
-#[derive(Clone, Copy)]
-pub struct Told<'a> {
-    pub finding: Finding,
-    pub mode: Mode,
-    pub events: &'a [Event],
-    /// The workload file whose events begin with the list, if there is one.
-    pub file: Option<&'a str>,
-}
-
 /// Writes what was found, a line for each event, the list's trace, and the workload file if there is one. The machine
 /// is given the events.
 pub fn write_told<W: Out>(
     sim: &mut Sim,
     about: &Workload,
-    told: Told<'_>,
+    mode: Mode,
+    told: &Told,
     out: &mut W,
 ) -> Result<(), Failed>
     ensures text { OnOk result (Appends (W.contents out.old) (W.contents out.new)
-        (told_text (names_of about.now) sim.old told.entry.finding told.entry.mode
-        told.entry.events.now (option_map (λ file. file.now) told.entry.file))) }
-    ensures there { OnOk result (sim.new ≡ stepped_all sim.old told.entry.events.now) }
+        (told_text (names_of about.now) sim.old mode told.now)) }
+    ensures there { OnOk result (sim.new ≡ stepped_all sim.old told.now.events) }
     ensures failures { Counts result (W.failure_count out.old) (W.failure_count out.new) }
 {
-    write_list(sim, about, told, out)?;
-    write_file(told.file, out)
+    write_list(sim, about, mode, told, out)?;
+    write_file(told.file(), out)
 }
 
 /// Writes what was found, a line for each event, and the list's trace.
 fn write_list<W: Out>(
     sim: &mut Sim,
     about: &Workload,
-    told: Told<'_>,
+    mode: Mode,
+    told: &Told,
     out: &mut W,
 ) -> Result<(), Failed>
     ensures text { OnOk result (Appends (W.contents out.old) (W.contents out.new)
-        (list_text (names_of about.now) sim.old told.entry.finding told.entry.mode
-        told.entry.events.now)) }
-    ensures there { OnOk result (sim.new ≡ stepped_all sim.old told.entry.events.now) }
+        (list_text (names_of about.now) sim.old told.now.finding mode told.now.events)) }
+    ensures there { OnOk result (sim.new ≡ stepped_all sim.old told.now.events) }
     ensures failures { Counts result (W.failure_count out.old) (W.failure_count out.new) }
 {
-    write_found(about, told.finding, told.mode, told.events, out)?;
-    write_events(about, told.events, out)?;
-    write_trace(sim, about, told.events, out)
+    write_found(about, told.finding(), mode, told.events(), out)?;
+    write_events(about, told.events(), out)?;
+    write_trace(sim, about, told.events(), out)
 }
 
 /// Writes a line `found fault 2 after 4 events`, `found idle cpu 1 while c waits after 5 events` or
@@ -72,6 +63,36 @@ fn write_found<W: Out>(
 ) -> Result<(), Failed>
     ensures ok { OnOk result (Appends (W.contents out.old) (W.contents out.new)
         (found_line (names_of about.now) finding mode (length_in mode events.now))) }
+    ensures failures { Counts result (W.failure_count out.old) (W.failure_count out.new) }
+{
+    write_text(out, head_word(finding))?;
+    write_length(about, finding, mode, events, out)
+}
+
+/// The words before what was found, at the head of a list.
+fn head_word(finding: Finding) -> &'static str
+    ensures { result.now ≡ head_word finding }
+{
+    match finding {
+        Finding::Fault(_)
+        | Finding::Stall(_)
+        | Finding::Exit(_)
+        | Finding::Idle { .. }
+        | Finding::Overtaken(_) => "found ",
+        Finding::Waits { .. } | Finding::Takes { .. } => "",
+    }
+}
+
+/// Writes what was found, with the length of the list.
+pub(crate) fn write_length<W: Out>(
+    about: &Workload,
+    finding: Finding,
+    mode: Mode,
+    events: &[Event],
+    out: &mut W,
+) -> Result<(), Failed>
+    ensures ok { OnOk result (Appends (W.contents out.old) (W.contents out.new)
+        (length_line (names_of about.now) finding mode (length_in mode events.now))) }
     ensures failures { Counts result (W.failure_count out.old) (W.failure_count out.new) }
 {
     write_finding(about, finding, out)?;
@@ -96,9 +117,9 @@ fn write_finding<W: Out>(about: &Workload, finding: Finding, out: &mut W) -> Res
     ensures failures { Counts result (W.failure_count out.old) (W.failure_count out.new) }
 {
     match finding {
-        Finding::Fault(fault) => write_number(out, "found fault ", u64::from(fault.number()), ""),
-        Finding::Stall(task) => write_task(about, "found stall of ", task, "", out),
-        Finding::Exit(code) => write_signed(out, "found exit ", code),
+        Finding::Fault(fault) => write_number(out, "fault ", u64::from(fault.number()), ""),
+        Finding::Stall(task) => write_task(about, "stall of ", task, "", out),
+        Finding::Exit(code) => write_signed(out, "exit ", code),
         Finding::Idle { cpu, task } => write_idle(about, cpu, task, out),
         Finding::Overtaken(pair) => write_overtaken(about, pair.waits, pair.runs, out),
         Finding::Waits { task, ms } => write_wait(about, task, ms, out),
@@ -114,7 +135,7 @@ fn write_idle<W: Out>(about: &Workload, cpu: u32, task: u16, out: &mut W) -> Res
         (idle_words (names_of about.now) cpu task)) }
     ensures failures { Counts result (W.failure_count out.old) (W.failure_count out.new) }
 {
-    write_number(out, "found idle cpu ", u64::from(cpu), " while ")?;
+    write_number(out, "idle cpu ", u64::from(cpu), " while ")?;
     write_task(about, "", task, " waits", out)
 }
 
@@ -128,7 +149,7 @@ fn write_overtaken<W: Out>(
         (overtaken_words (names_of about.now) waits runs)) }
     ensures failures { Counts result (W.failure_count out.old) (W.failure_count out.new) }
 {
-    write_task(about, "found overtaken ", waits, " by ", out)?;
+    write_task(about, "overtaken ", waits, " by ", out)?;
     write_task(about, "", runs, "", out)
 }
 

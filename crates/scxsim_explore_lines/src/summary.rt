@@ -1,13 +1,16 @@
 ghost use Rattle.std.specs.Prelude.{◌≡◌, ◌++◌, IfOk, OnOk, Some, flat_map};
 ghost use Rattle.std.specs.Io.KnownBytes.{Appends};
 ghost use Rattle.scxsim_output.specs.Output.{Counts};
-ghost use Rattle.scxsim_explore_lines.specs.Summary.{again_line, alike_line, depth_lines, depth_unit, depths_of, few_words, kept_line, level_line, memory_line, misfit_end, misfit_line, none_line, none_lines, nones_of, nones_text, overtaken_line, reach_words, run_line, sort_words, start_line, start_lines, summary_text, task_start_lines, tried_words, up_to};
+ghost use Rattle.scxsim_trace.specs.Lines.{names_of};
+ghost use Rattle.scxsim_explore_lines.specs.Summary.{again_line, alike_line, answer_line, answer_lines, depth_lines, depth_unit, depths_of, few_words, kept_line, level_line, memory_line, misfit_end, misfit_line, none_line, none_lines, nones_of, nones_text, overtaken_line, reach_words, run_line, search_text, sort_words, start_line, start_lines, summary_text, task_start_lines, tried_words, up_to};
 
-use crate::found::write_most;
+use crate::found::{write_length, write_most};
 use crate::pieces::{write_number, write_text};
+use crate::told::Told;
 use scx_explore::{Bounds, Level, Mode, Sort, Starts};
 use scx_explore_audit::Moves;
 use scx_isa::Callback;
+use scx_load_workloads::Workload;
 use scxsim_output::{Failed, Out};
 
 /// The depths that a search reached.
@@ -38,21 +41,67 @@ pub struct Unfound<'a> {
     pub again: Option<Moves>,
 }
 
-/// Writes the lines at the end: instructions before any event, how far the search came, and what is in none of the
-/// lists.
+/// Writes the first lines: what was found in each of the lists, what is in none, and an empty line.
 pub fn write_summary<W: Out>(
-    starts: Starts,
-    reached: Reached<'_>,
+    about: &Workload,
+    found: &[Told],
     unfound: Unfound<'_>,
     out: &mut W,
 ) -> Result<(), Failed>
     ensures ok { OnOk result (Appends (W.contents out.old) (W.contents out.new)
-        (summary_text starts (depths_of reached.entry) (nones_of unfound.entry))) }
+        (summary_text (names_of about.now) found.now (nones_of unfound.entry))) }
+    ensures failures { Counts result (W.failure_count out.old) (W.failure_count out.new) }
+{
+    write_answers(about, unfound.bounds.mode, found, out)?;
+    write_nones(unfound, out)?;
+    write_text(out, "\n")
+}
+
+/// Writes a line for each list.
+fn write_answers<W: Out>(
+    about: &Workload,
+    mode: Mode,
+    found: &[Told],
+    out: &mut W,
+) -> Result<(), Failed>
+    ensures ok { OnOk result (Appends (W.contents out.old) (W.contents out.new)
+        (answer_lines (names_of about.now) mode found.now)) }
+    ensures failures { Counts result (W.failure_count out.old) (W.failure_count out.new) }
+{
+    for told in found {
+        write_answer(about, mode, told, out)?;
+    }
+    Ok(())
+}
+
+/// Writes a line `found: idle cpu 1 while c waits after 5 events`.
+fn write_answer<W: Out>(
+    about: &Workload,
+    mode: Mode,
+    told: &Told,
+    out: &mut W,
+) -> Result<(), Failed>
+    ensures ok { OnOk result (Appends (W.contents out.old) (W.contents out.new)
+        (answer_line (names_of about.now) mode told.now)) }
+    ensures failures { Counts result (W.failure_count out.old) (W.failure_count out.new) }
+{
+    write_text(out, "found: ")?;
+    write_length(about, told.finding(), mode, told.events(), out)
+}
+
+/// Writes the last lines: instructions before any event, and how far the search came.
+pub fn write_search<W: Out>(
+    starts: Starts,
+    mode: Mode,
+    reached: Reached<'_>,
+    out: &mut W,
+) -> Result<(), Failed>
+    ensures ok { OnOk result (Appends (W.contents out.old) (W.contents out.new)
+        (search_text starts mode (depths_of reached.entry))) }
     ensures failures { Counts result (W.failure_count out.old) (W.failure_count out.new) }
 {
     write_starts(starts, out)?;
-    write_reached(unfound.bounds.mode, reached, out)?;
-    write_nones(unfound, out)
+    write_reached(mode, reached, out)
 }
 
 /// Writes the most instructions of the callbacks that ran before any event.
@@ -225,15 +274,15 @@ fn misfit_end(mode: Mode) -> &'static str
     }
 }
 
-/// Writes whether the states were audited, and a line for each sort.
+/// Writes a line for each sort, and whether the states were audited.
 fn write_nones<W: Out>(unfound: Unfound<'_>, out: &mut W) -> Result<(), Failed>
     ensures ok { OnOk result (Appends (W.contents out.old) (W.contents out.new)
         (nones_text (nones_of unfound.entry))) }
     ensures failures { Counts result (W.failure_count out.old) (W.failure_count out.new) }
 {
-    write_text(out, again_text(unfound.again))?;
     write_sorts(unfound.bounds, unfound.reach, unfound.sorts, out)?;
-    write_overtaken(unfound, out)
+    write_overtaken(unfound, out)?;
+    write_text(out, again_text(unfound.again))
 }
 
 /// The line on an audit of the states, if there was one.

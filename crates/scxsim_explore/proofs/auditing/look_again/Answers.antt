@@ -1,11 +1,14 @@
 use Rattle.std.proofs.Common.{◌∙◌, ap, inl, inr, sym}
 use Rattle.scx_explore.specs.Ends.{done_of}
 use Rattle.scxsim_explore_lines.specs.Summary.{Nones, nones_of}
-use Rattle.scxsim_explore.proofs.Ended.{concluded_again, concluded_any, concluded_bounds, concluded_looked, concluded_some, not_looked, unlooked_some}
+use Rattle.scxsim_explore.proofs.Ended.{concluded_again, concluded_any, concluded_apart, concluded_bounds, concluded_looked, concluded_some, not_looked, unlooked_apart, unlooked_some}
 use Rattle.scxsim_explore.proofs.auditing.look_again.Goals as goal
 
 pub returns-in_default-clause-bounds : goal.returns-in_default-clause-bounds
 returns-in_default-clause-bounds c = ap (λ (x : Nones). x.bounds) c.unlooked.ensures
+
+pub returns-in_default-clause-apart : goal.returns-in_default-clause-apart
+returns-in_default-clause-apart c = λ found h. unlooked_apart found (nones_of c.args.unfound) (nones_of c.unlooked.result) c.args.unfound.reach c.unlooked.ensures h
 
 pub returns-in_default-clause-again : goal.returns-in_default-clause-again
 returns-in_default-clause-again c =
@@ -23,6 +26,9 @@ returns-in_default-clause-some c =
 
 pub returns-clause-bounds : goal.returns-clause-bounds
 returns-clause-bounds c = concluded_bounds c.is_closed-closed.result _ c.in-Some.moves (nones_of c.args.unfound) (nones_of c.concluded.result.unfound) c.concluded.ensures.nones
+
+pub returns-clause-apart : goal.returns-clause-apart
+returns-clause-apart c = λ found h. concluded_apart c.is_closed-closed.result _ c.in-Some.moves found (nones_of c.args.unfound) (nones_of c.concluded.result.unfound) c.concluded.ensures.nones h
 
 pub returns-clause-again : goal.returns-clause-again
 returns-clause-again c =

@@ -3,5 +3,5 @@ use Rattle.scxsim_explore_lines.proofs.found.write_found.Goals as goal
 
 pub returns-clause-ok : goal.returns-clause-ok
 returns-clause-ok g c =
-    let last = rw (c.unit.ensures, c.length_in-length.ensures) at c.write_number.ensures.ok in
-    two_on c.write_number.result _ _ _ _ _ c.in_ok-write_finding.ensures.ok last
+    let first = rw c.head_word.ensures at c.in_ok-write_text.ensures.ok in
+    two_on c.write_length.result _ _ _ _ _ first c.write_length.ensures.ok

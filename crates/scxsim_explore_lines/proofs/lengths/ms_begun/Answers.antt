@@ -1,7 +1,7 @@
-use Rattle.std.proofs.Common.{rules, arith, ◌<◌, length, refl}
+use Rattle.std.proofs.Common.{rules, arith, ◌<◌, length}
 use Rattle.scxsim_explore_lines.specs.Found.{ms_begun}
 use Rattle.std.specs.Prelude.{true}
-use Rattle.scxsim_explore_lines.proofs.Clocks.{ms_more, ms_all}
+use Rattle.scxsim_explore_lines.proofs.Clocks.{ms_more}
 use Rattle.scxsim_explore_lines.proofs.lengths.ms_begun.Goals as goal
 
 pub loop-event-preserved : goal.loop-event-preserved

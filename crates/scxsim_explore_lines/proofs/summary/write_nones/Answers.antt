@@ -3,5 +3,5 @@ use Rattle.scxsim_explore_lines.proofs.summary.write_nones.Goals as goal
 
 pub returns-clause-ok : goal.returns-clause-ok
 returns-clause-ok g c =
-    let first = rw c.again_text.ensures at c.in_ok-write_text.ensures.ok in
-    three_on c.write_overtaken.result _ _ _ _ _ _ _ first c.in_ok-write_sorts.ensures.ok c.write_overtaken.ensures.ok
+    let last = rw c.again_text.ensures at c.write_text.ensures.ok in
+    three_on c.write_text.result _ _ _ _ _ _ _ c.in_ok-write_sorts.ensures.ok c.in_ok-write_overtaken.ensures.ok last
