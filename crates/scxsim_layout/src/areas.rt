@@ -4,6 +4,7 @@ ghost use Rattle.scxsim_layout.specs.Areas.{stacked, height_of};
 use crate::grids::Grid;
 
 /// The size of an area.
+#[derive(Drop)]
 pub struct Area {
     /// The milliseconds of a column that is as high as can be.
     pub full: u64,

@@ -113,7 +113,6 @@ impl Picture {
             tall: row.runs().tall.saturating_mul(100),
         };
         let high = area.height(&self.gathered.sums.area, layers, column);
-        let Area { full: _, tall: _ } = area;
         self.base_of(row).saturating_sub(high)
     }
 
