@@ -93,11 +93,12 @@ def test_a_scheduler_that_does_not_answer_is_named(monkeypatch):
 
 @pytest.mark.slow
 def test_ctrl_c_is_one_line(tmp_path):
-    # A terminal sends it to all processes of the command.
+    # A terminal sends it to all processes of the command. A job in the background of a shell ignores it.
     (tmp_path / "e.toml").write_text(EXPERIMENT.replace("to = 75", "to = 1000"))
     command = [sys.executable, "-m", "scxlab", "sweep", str(tmp_path / "e.toml"), "--local", "2"]
     with subprocess.Popen(command, env=os.environ | {"PYTHONPATH": str(LAB / "src")}, stdout=subprocess.DEVNULL,
-                          stderr=subprocess.PIPE, text=True, start_new_session=True) as process:
+                          stderr=subprocess.PIPE, text=True, start_new_session=True,
+                          preexec_fn=lambda: signal.signal(signal.SIGINT, signal.default_int_handler)) as process:
         results = tmp_path / "e.sqlite"
         for _ in range(600):
             time.sleep(0.1)
