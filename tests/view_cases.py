@@ -236,6 +236,7 @@ def links(window, maker):
     window.open(path, "#500-600,backup")
     window.expect("one that isn't in the page", "isn't in this page" in window.text("live") and window.sight() == [0, 120])
     window.open(maker.page("links_part", STRICT, BUSY, 20, 70), "#30-50,sound")
+    window.figures()
     window.same("in a part", [*window.sight(), window.text("span")], [10, 30, "In sight: 30 ms to 50 ms"])
 
 
