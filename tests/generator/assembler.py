@@ -20,7 +20,9 @@ def wide(destination, source, number):
 
 
 def distance(target, position, labels):
-    return int(target) if target[0] in "+-" else labels[target] - position - 1
+    if target[0] in "+-":
+        return int(target, 16 if "0x" in target else 10)
+    return labels[target] - position - 1
 
 
 def arithmetic_slot(match):
