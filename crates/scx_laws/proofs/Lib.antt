@@ -1,3 +1,21 @@
+pub mod Differing
+pub mod BindingTasks
+pub mod PickingIdle
+pub mod Ejecting
+pub mod Readers
+pub mod Alarms
+pub mod Entering
+pub mod Helping
+pub mod Calling
+pub mod Departing
+pub mod Ringing
+pub mod Cycling
+pub mod Rounding
+pub mod Waiting
+pub mod Refusing
+pub mod Happening
+pub mod Homing
+pub mod Starting
 mod Sums
 mod Sound
 mod Adding

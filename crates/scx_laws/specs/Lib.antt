@@ -1,3 +1,17 @@
+pub mod Differences
+pub mod BoundTasks
+pub mod Entries
+pub mod Helpers
+pub mod Ejections
+pub mod Callbacks
+pub mod Custody
+pub mod Timers
+pub mod Cycles
+pub mod Rounds
+pub mod Refusals
+pub mod Events
+pub mod Starts
+pub mod Allowing
 pub mod Runs
 pub mod Times
 pub mod Serving

@@ -7,3 +7,6 @@ pub mod Keys
 pub mod Listing
 pub mod Meaning
 pub mod Scenarios
+mod Beginning
+mod SameParts
+mod Filing

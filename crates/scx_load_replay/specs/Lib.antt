@@ -7,3 +7,4 @@ pub mod Replayer
 pub mod Laws
 pub mod Sources
 pub mod Scenarios
+pub mod WorkloadFiles

@@ -7,6 +7,8 @@
 //!
 //! A `Scenario` is a workload or a file of events: the key `events` decides (`is_events`). Its events come from a
 //! `Source`.
+//!
+//! `workload_file` goes the other way: it writes a workload file whose events begin with a list of events.
 #![tactic(auto)]
 
 mod laws;
@@ -17,6 +19,7 @@ mod replay;
 mod replayer;
 mod scenario;
 mod source;
+mod workload_files;
 
 pub use laws::{each_line_comes, no_event_is_refused};
 pub use lines::Line;
@@ -25,3 +28,4 @@ pub use replay::Replay;
 pub use replayer::Replayer;
 pub use scenario::Scenario;
 pub use source::Source;
+pub use workload_files::{begins_with, workload_file};

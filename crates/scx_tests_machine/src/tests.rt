@@ -1,5 +1,4 @@
 mod crowds;
-mod files;
 mod largest;
 mod refusals;
 mod steps;

@@ -1,3 +1,0 @@
-mod Beginning
-mod Same
-mod Filing

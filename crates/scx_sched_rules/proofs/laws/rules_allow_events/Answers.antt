@@ -1,8 +1,0 @@
-use Rattle.scx_sched_rules.proofs.Happening.{happens, only_happens}
-use Rattle.scx_sched_rules.proofs.laws.rules_allow_events.Goals as goal
-
-pub returns-clause-allowed : goal.returns-clause-allowed
-returns-clause-allowed c = happens
-
-pub returns-clause-only : goal.returns-clause-only
-returns-clause-only c = only_happens

@@ -1,8 +1,0 @@
-use Rattle.scx_sched_rules.proofs.Helping.{helper_allowed, only_helper}
-use Rattle.scx_sched_rules.proofs.laws.rules_allow_helpers.Goals as goal
-
-pub returns-clause-allowed : goal.returns-clause-allowed
-returns-clause-allowed c = helper_allowed
-
-pub returns-clause-only : goal.returns-clause-only
-returns-clause-only c = only_helper
