@@ -75,11 +75,12 @@ clock_next d phase.Clock some m n s left next blocks none unwatched = clock_grow
 -- ---- the ticks
 
 -- both tests hold
-record AreBefore (m i j : ℕ) : Type 0 where
+pub record AreBefore (m i j : ℕ) : Type 0 where
   pub change : m < i
   pub wake : m < j
 
-before : (m i j : ℕ) → (nat_lt m i && nat_lt m j) ≡ true → AreBefore m i j
+-- where both are, each is
+pub before : (m i j : ℕ) → (nat_lt m i && nat_lt m j) ≡ true → AreBefore m i j
 before m i j e = go (nat_lt m i) (nat_lt m j) refl refl e
   where
     go : (a b : Bool) → nat_lt m i ≡ a → nat_lt m j ≡ b → (a && b) ≡ true → AreBefore m i j

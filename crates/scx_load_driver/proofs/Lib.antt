@@ -12,6 +12,8 @@ pub mod Quiet
 pub mod Sleeping
 pub mod Remaining
 pub mod Calm
+pub mod Coming
+pub mod Ordered
 pub mod Passing
 pub mod Going
 pub mod Whole

@@ -8,7 +8,7 @@ use Rattle.scx_load_driver.specs.declared.driver.Phase.TheVariants as phase
 use Rattle.scx_load_driver.specs.declared.driver.Driver.TheInside.{Inside}
 use Rattle.scx_load_driver.specs.Runs.{stepped_all}
 use Rattle.scx_load_driver.specs.Blocks.{Plan, Memory, Block, Changes, Wakes, Ticks, Sleeps, Clock, ticks_of}
-use Rattle.scx_load_driver.specs.Changes.{AreLater}
+use Rattle.scx_load_driver.specs.Changes.{AreOrdered, IsComing}
 use Rattle.scx_load_driver.specs.Calendar.{IsWhole, AreNoted}
 use Rattle.scx_load_driver.specs.Watch.{is_watched, last_ticks_of, watched_after, watched_after_all, block_seen, memory_seen, watched_in, events_seen}
 use Rattle.scx_load_driver.specs.Events.{blocks_from}
@@ -146,7 +146,8 @@ pub record IsKept (d : Inside) : Type 0 where
   pub watched : length d.watched ≡ length d.timings.items
   pub times : d.clock + d.left ≤ max_ms
   pub sleeps : (t : ℕ) → t < length d.timings.items → (timing_at d.timings.items t).sleep ≤ max_ms
-  pub later : AreLater d.changes.items (changed_before d.phase d.clock) d.next_change
+  pub ordered : AreOrdered d.changes.items
+  pub coming : IsComing d.changes.items (changed_before d.phase d.clock) d.coming d.next_change
   pub whole : IsWhole d.calendar
   pub noted : AreNoted d.due.items (woken_before d.phase d.clock) d.calendar
   pub unwatched : AreUnwatched d.some_watched d.watched

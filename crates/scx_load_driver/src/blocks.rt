@@ -5,7 +5,7 @@ ghost use Rattle.scx_load_workloads.specs.Workload.{max_ms, timing_at};
 ghost use Rattle.scx_load_driver.specs.Blocks.{change_event, is_due, has_run_enough, only_runners_sleep, may_sleep, changes_at, wakes_at, ran_after};
 ghost use Rattle.scx_load_driver.specs.Watch.{last_tick, last_ticks_of, watched_if, watched_at_tick, watched_after, sleeps_seen, due_seen, watched_still};
 ghost use Rattle.scx_sched_machine.specs.declared.events.Event.TheVariants.{Wake, Sleep};
-ghost use Rattle.scx_load_driver.specs.Changes.{AreLater};
+ghost use Rattle.scx_load_driver.specs.Changes.{AreOrdered, IsComing};
 ghost use Rattle.scx_load_driver.specs.Calendar.{IsWhole, AreNoted};
 ghost use Rattle.scx_load_driver.specs.Driver.{AreUnwatched};
 
@@ -13,7 +13,6 @@ use crate::calendar::Calendar;
 use crate::set::NumberSet;
 use scx_load_workloads::{Change, Timing, Weighed};
 use scx_sched::{Event, Sim};
-use std::cmp;
 
 /// A millisecond, in nanoseconds.
 const MS_NS: u64 = 1_000_000;
@@ -65,17 +64,19 @@ fn may_sleep(sim: &Sim, task: u16) -> bool
     }
 }
 
-/// The first millisecond after this one in which a weight changes.
-fn next_change(changes: &[Change], now: u32) -> u32
-    ensures { AreLater changes.now (now + 1) result }
+/// The millisecond of the change that comes next; one after all milliseconds where none comes.
+fn next_change(changes: &[Change], coming: usize) -> u32
+    requires { AreOrdered changes.now }
+    ensures { (from : ℕ)
+        → from ≤ max_ms
+        → IsComing changes.now from coming from
+        → IsComing changes.now from coming result }
 {
-    let mut next = u32::MAX;
-    for change in changes {
-        if now < change.at {
-            next = cmp::min(next, change.at);
-        }
+    if coming < changes.len() {
+        changes[coming].at
+    } else {
+        u32::MAX
     }
-    next
 }
 
 /// The event of a change of a weight.
@@ -88,38 +89,53 @@ fn change_event(change: Change) -> Event
     }
 }
 
-/// Adds the changes of weights of this millisecond.
-#[tactic(auto, using(crate::proofs::Below::events_push, crate::proofs::Below::events_skip, crate::proofs::Below::set_push, crate::proofs::Below::set_skip))]
-fn find_changes(changes: &[Change], now: u32, events: &mut Vec<Event>)
+/// Adds the changes of weights of this millisecond, from the coming one on. Answers the index of the first change after
+/// them.
+#[tactic(auto, using(crate::proofs::Below::events_push))]
+fn find_changes(changes: &[Change], coming: usize, now: u32, events: &mut Vec<Event>) -> usize
     requires few { length changes.now ≤ 1024 }
+    requires ordered { AreOrdered changes.now }
+    requires coming { IsComing changes.now now coming now }
     requires room { 1024 ≤ vec_capacity events.old }
     requires empty { events.old.items ≡ [] }
     ensures events { events.new.items ≡ changes_at changes.now now }
+    ensures coming { IsComing changes.now (now + 1) result (now + 1) }
     ensures room { 1024 ≤ vec_capacity events.new }
 {
-    for change in changes {
-        if change.at == now {
-            events.push_reserved(change_event(*change));
+    for index in coming..changes.len() {
+        let change = changes[index];
+        if change.at != now {
+            return index;
         }
+        events.push_reserved(change_event(change));
     }
+    changes.len()
 }
 
 /// Adds the changes of weights of this millisecond. Answers the next millisecond with a change. Before `next` no
 /// change is looked at.
-pub(crate) fn add_changes(changes: &[Change], next: u32, now: u32, events: &mut Vec<Event>) -> u32
+pub(crate) fn add_changes(
+    changes: &[Change],
+    coming: &mut usize,
+    next: u32,
+    now: u32,
+    events: &mut Vec<Event>,
+) -> u32
     requires few { length changes.now ≤ 1024 }
-    requires later { AreLater changes.now now next }
+    requires ordered { AreOrdered changes.now }
+    requires coming { IsComing changes.now now coming.old next }
+    requires early { now < max_ms }
     requires room { 1024 ≤ vec_capacity events.old }
     requires empty { events.old.items ≡ [] }
     ensures events { events.new.items ≡ changes_at changes.now now }
+    ensures coming { IsComing changes.now (now + 1) coming.new result }
     ensures room { 1024 ≤ vec_capacity events.new }
-    ensures later { AreLater changes.now (now + 1) result }
 {
     if now < next {
         return next;
     }
-    find_changes(changes, now, events);
-    next_change(changes, now)
+    *coming = find_changes(changes, *coming, now, events);
+    next_change(changes, *coming)
 }
 
 /// The run time from which a task lacks one tick at most, in nanoseconds, if its run time was `ran` at its last

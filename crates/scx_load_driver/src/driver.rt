@@ -1,8 +1,9 @@
-ghost use Rattle.std.specs.Prelude.{◌≡◌, ◌≤◌, ◌<◌, ◌∷◌, [], not, map, true, false, IsTrue, IfOk, IfSome, IfNone};
+ghost use Rattle.std.specs.Prelude.{◌≡◌, ◌≤◌, ◌<◌, ◌∷◌, [], length, not, map, true, false, IsTrue, IfOk, IfSome, IfNone};
 ghost use Rattle.scx_sched_machine.specs.declared.events.Event.TheVariants.{Clock};
 ghost use Rattle.scx_sched.specs.Sim.{SimState, after_event};
 ghost use Rattle.scx_load_workloads.specs.declared.workload.Timing.{Timing};
 ghost use Rattle.scx_load_driver.specs.Events.{workload_events};
+ghost use Rattle.scx_load_driver.specs.Changes.{AreOrdered, AreAlike};
 ghost use Rattle.scx_load_driver.specs.Runs.{Skips};
 ghost use Rattle.scx_load_driver.specs.Watch.{last_tick};
 ghost use Rattle.scx_load_driver.specs.Driver.{is_clock_next, are_ticks_next};
@@ -10,7 +11,7 @@ ghost use Rattle.scx_load_driver.specs.Driver.{is_clock_next, are_ticks_next};
 use crate::blocks::{add_changes, add_sleeps, add_wakes, last_tick, watch_event, watch_runner};
 use crate::calendar::Calendar;
 use crate::set::NumberSet;
-use crate::skipping::{calm_ms, runs_last};
+use crate::skipping::{calm_ms, lacks_more, runs_last};
 use scx_load_workloads::{Change, Timing, Workload};
 use scx_sched::{Event, Sim};
 use std::alloc::{AllocError, Global};
@@ -46,7 +47,10 @@ pub struct Driver {
     /// The CPU that ticks next; the number of CPUs except in the block of ticks.
     cpu: u32,
     timings: Vec<Timing>,
+    /// The changes of weights, in the order of their times.
     changes: Vec<Change>,
+    /// The index of the first change that isn't past.
+    coming: usize,
     /// The block that comes next, in the millisecond `clock`.
     phase: Phase,
     clock: u32,
@@ -107,7 +111,8 @@ impl Driver {
             cpus,
             cpu: cpus,
             timings,
-            changes: Vec::from_slice(alloc, workload.changes())?,
+            changes: in_order(alloc, workload.changes())?,
+            coming: 0,
             phase: Phase::Changes,
             clock: 0,
             left: workload.ms(),
@@ -120,7 +125,7 @@ impl Driver {
             some_watched: true,
             events: Vec::with_capacity(alloc, MAX_BLOCK)?,
             taken: 0,
-            next_try: 0,
+            next_try: 1,
             pause: 1,
         })
     }
@@ -241,12 +246,22 @@ impl Driver {
         }
     }
 
+    /// Gives the machine at once events that come next and of which nothing comes but that tasks run: whole milliseconds
+    /// of them, and the ticks that come next. The machine took exactly the events before them.
+    #[inline(always)]
+    #[tactic(auto, using(crate::proofs::Passing::skips_both))]
+    pub fn skip(&mut self, sim: &mut Sim)
+        ensures { Skips (remaining self.old sim.old) sim.old (remaining self.new sim.new) sim.new }
+    {
+        self.skip_ms(sim);
+        self.tick_on(sim);
+    }
+
     /// Gives the machine at once the events of milliseconds that come next and in which nothing happens but that tasks
-    /// run. The machine took exactly the events before them. After a try that gains little the next ones come later and
-    /// later.
+    /// run. After a try that gains little the next ones come later and later.
     #[inline(always)]
     #[tactic(auto, using(crate::proofs::Passing::skips_none))]
-    pub fn skip(&mut self, sim: &mut Sim)
+    fn skip_ms(&mut self, sim: &mut Sim)
         ensures { Skips (remaining self.old sim.old) sim.old (remaining self.new sim.new) sim.new }
     {
         if self.next_try <= self.clock {
@@ -254,7 +269,42 @@ impl Driver {
         }
     }
 
-    /// `skip`, however long ago the last try was.
+    /// Gives the machine the ticks that come next, for as long as the CPUs' tasks run on.
+    #[inline(always)]
+    #[tactic(auto, using(crate::proofs::Passing::skips_none, crate::proofs::Passing::skips_both))]
+    fn tick_on(&mut self, sim: &mut Sim)
+        ensures { Skips (remaining self.old sim.old) sim.old (remaining self.new sim.new) sim.new }
+    {
+        while self.tick_next(sim) {}
+    }
+
+    /// Gives the machine the tick that comes next, if the CPU's task runs on and isn't to be watched. Answers false, and
+    /// does nothing, where that isn't so.
+    #[inline(always)]
+    #[tactic(auto, using(crate::proofs::Passing::skips_none))]
+    fn tick_next(&mut self, sim: &mut Sim) -> bool
+        ensures skips { Skips (remaining self.old sim.old) sim.old (remaining self.new sim.new)
+            sim.new }
+        ensures fewer { result ≡ true → length self.new.pending < length self.old.pending }
+    {
+        let cpu = self.cpu;
+        if self.cpus <= cpu {
+            return false;
+        }
+        let Some(task) = sim.runner(cpu) else {
+            return false;
+        };
+        if !lacks_more(&self.last_ticks, sim, task) {
+            return false;
+        }
+        if !sim.run_on(cpu) {
+            return false;
+        }
+        self.cpu += 1;
+        true
+    }
+
+    /// `skip_ms`, however long ago the last try was.
     #[tactic(auto, using(crate::proofs::Passing::skips_same, crate::proofs::Passing::skips_both))]
     fn try_to_skip(&mut self, sim: &mut Sim)
         ensures { Skips (remaining self.old sim.old) sim.old (remaining self.new sim.new) sim.new }
@@ -409,7 +459,13 @@ impl Driver {
         let events = &mut self.events;
         match self.phase {
             Phase::Changes => {
-                self.next_change = add_changes(&self.changes, self.next_change, now, events);
+                self.next_change = add_changes(
+                    &self.changes,
+                    &mut self.coming,
+                    self.next_change,
+                    now,
+                    events,
+                );
                 self.phase = Phase::Wakes;
             }
             Phase::Wakes => {
@@ -476,6 +532,17 @@ fn are_ticks_next(phase: Phase, now: u32, next_change: u32, next_wake: u32) -> b
     } else {
         phase == Phase::Ticks
     }
+}
+
+/// The changes of weights in the order of their times; those of a millisecond keep their order.
+fn in_order(alloc: Global, changes: &[Change]) -> Result<Vec<Change>, AllocError>
+    ensures many { IfOk result (λ ordered. length ordered.items ≡ length changes.now) }
+    ensures ordered { IfOk result (λ ordered. AreOrdered ordered.items) }
+    ensures alike { IfOk result (λ ordered. AreAlike ordered.items changes.now) }
+{
+    let mut ordered = Vec::from_slice(alloc, changes)?;
+    ordered.sort_by_key(|change| change.at)?;
+    Ok(ordered)
 }
 
 /// The millisecond of each task's first wake.

@@ -7,7 +7,8 @@
 //! at the end. That no machine made for the workload refuses an event is the law `no_event_is_refused`.
 //!
 //! Few tasks are looked at for an event. A `Calendar` has the tasks of each day, which is a remainder of the
-//! millisecond in which they wake, and a driver watches only the tasks that may have run enough.
+//! millisecond in which they wake, and a driver watches only the tasks that may have run enough. Changes of weights
+//! are sorted by their times once, and a block looks only at its own.
 //!
 //! The headline: for every policy whose callbacks `verify` accepts and every list of events, the recorded
 //! run is the machine's; in it no callback is ever stuck or takes more steps than it has instructions,

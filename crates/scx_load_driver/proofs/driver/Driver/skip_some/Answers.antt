@@ -11,6 +11,7 @@ use Rattle.scx_load_driver.specs.Driver.{DriverState, remaining, is_empty, state
 use Rattle.scx_load_driver.specs.Passing.{RunsLast}
 use Rattle.scx_load_driver.proofs.Remaining.{none_ticks, only_ticks}
 use Rattle.scx_load_driver.proofs.Calm.{noted_for_ticks, later_for_ticks}
+use Rattle.scx_load_driver.proofs.Coming.{later_from}
 use Rattle.scx_load_driver.proofs.Passing.{ticking, beginning, runs_less, calm_between, skips_some}
 use Rattle.scx_load_driver.proofs.driver.Driver.skip_some.Goals as goal
 
@@ -45,7 +46,7 @@ returns c =
     (subst (λ (xs : List ℕ). RunsLast (c.runs_last-most.result * tick_ns) xs c.args.sim.now.state.world) (c.deref.ensures.value ∙ whole.last)
     (c.runs_last-most.ensures.last (omega (arith, c.if-ms-eq0.false, c.calm_ms-ms.ensures.most, c.quiet_ms-most.ensures.most))))) in
     let calm = calm_between d m ms inside.next_change inside.calendar
-    (later_for_ticks inside.changes.items inside.phase m inside.next_change whole.later) (noted_for_ticks inside.due.items inside.phase m inside.calendar whole.noted)
+    (later_for_ticks inside.changes.items inside.phase m inside.next_change (later_from inside.changes.items _ inside.coming inside.next_change whole.coming)) (noted_for_ticks inside.due.items inside.phase m inside.calendar whole.noted)
     c.calm_ms-ms.ensures.changes c.calm_ms-ms.ensures.wakes in
     let passes : Skips (remaining (ticking d m n) s) s (remaining (beginning d (m + ms) (n - ms)) t) t =
     skips_some d m n ms inside.next_change inside.calendar s t (omega (arith, c.if-ms-eq0.false))
