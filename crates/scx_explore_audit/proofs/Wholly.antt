@@ -6,7 +6,7 @@ use Rattle.std.proofs.lemmas.List.Elements.{All-head, All-tail, All-weaker}
 use Rattle.scx_maps.specs.declared.shape.Shape.{Shape}
 use Rattle.scx_weights.specs.Limits.{has_quota}
 use Rattle.scx_sched_tasks.specs.declared.task.Task.{Task}
-use Rattle.scx_sched_world.specs.World.{WorldState, are_linux}
+use Rattle.scx_sched_world.specs.World.{are_linux}
 use Rattle.scx_sched_machine.specs.declared.events.Event.{Event}
 use Rattle.scx_sched_machine.specs.declared.events.Event.TheVariants.{Wake, Sleep, Tick, Clock, SetWeight, SetTaskWeight}
 use Rattle.scx_sched_machine.specs.declared.events.Refused.{Refused}

@@ -8,7 +8,10 @@ use Rattle.scx_maps.specs.declared.shape.Shape.{Shape}
 use Rattle.scx_vm.specs.Programs.{context, by_rules}
 use Rattle.scx_load_policies.specs.Policies.{PolicyFile, Programs}
 use Rattle.scx_load_policies.specs.Reading.{policy_text}
+use Rattle.scx_sched.specs.Sim.{SimState}
 use Rattle.scx_explore_states.specs.declared.form.Form.{Form}
+use Rattle.scx_explore_states.specs.declared.map_words.MapWords.TheVariants.{Whole}
+use Rattle.scx_explore_states.specs.Written.{IsSuited}
 use Rattle.scx_explore_bounds.specs.declared.uses.Uses.{Uses}
 use Rattle.scx_explore_bounds.specs.Uses.{Does}
 use Rattle.scx_explore_bounds.specs.declared.bounds.Bounds.{Bounds}
@@ -35,6 +38,7 @@ form_of u waits = record {
   random = u.random;
   names = true;
   weights = u.weight;
+  map_words = Whole;
 }
 
 -- that form, where tasks of a group may change places unless a program tells them apart: loads the
@@ -91,3 +95,10 @@ pub record IsFormOf (policy : List ℕ) (b : Bounds) (f : Form) : Type 0 where
   pub file : PolicyFile
   pub read : policy_text policy ≡ Ok file
   pub form : IsFormIn file b f
+
+-- states of a search from that machine are written in this form: the one of the policy, but where
+-- maps are large with words of them that suit the machine
+pub record IsFormFrom (policy : List ℕ) (b : Bounds) (s : SimState) (f : Form) : Type 0 where
+  pub plain : Form
+  pub of_policy : IsFormOf policy b plain
+  pub suited : IsSuited plain s f

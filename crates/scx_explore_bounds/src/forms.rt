@@ -4,7 +4,7 @@ ghost use Rattle.scx_explore_bounds.specs.Forms.{DoAll, DoesAs, IsFormIn, IsForm
 
 use crate::bounds::{Bounds, Mode};
 use crate::uses::Uses;
-use scx_explore_states::Form;
+use scx_explore_states::{Form, MapWords};
 use scx_isa::{CALLBACKS, Callback, Program, Rules};
 use scx_load_policies::{PolicyText, Programs, read_policy};
 use scx_maps::MapDefs;
@@ -120,6 +120,7 @@ fn form_by(uses: Uses, waits: bool) -> Form
         random: uses.random,
         names: true,
         weights: uses.weight,
+        map_words: MapWords::Whole,
     }
 }
 

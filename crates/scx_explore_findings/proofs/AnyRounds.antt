@@ -20,16 +20,8 @@ use Rattle.scx_explore_findings.proofs.IdleRecords.{bits, of_same}
 use Rattle.scx_explore_findings.proofs.Omitting.{Omitted, omit, omit_state, omit_call, omit_step, twice, IfAny}
 use Rattle.scx_explore_findings.proofs.Worlds.{known}
 use Rattle.scx_explore_findings.proofs.Steps.{TellNothing, Passes, from, joins, choose, rests}
+use Rattle.scx_explore_findings.proofs.Cycles.{next_same}
 use Rattle.scx_explore_findings.proofs.Events.{IsApart, passes_any_round, passes_own}
-
--- an event of one of two such states is refused for the same cause in the other one
-pub refusal_same : (h : Omitted) (s : State) (e : Event) → refusal s e ≡ refusal (omit_state h s) e
-refusal_same h s (Wake t) = ap (λ (b : Bool). cond b (cond (is_runnable s.world t) (Some AlreadyRunnable) None) (Some UnknownTask)) (known h s.world t)
-refusal_same h s (Sleep t) = ap (λ (b : Bool). cond b (cond (is_runnable s.world t) None (Some NotRunnable)) (Some UnknownTask)) (known h s.world t)
-refusal_same h s (Tick c) = refl
-refusal_same h s Clock = refl
-refusal_same h s (SetWeight g x) = refl
-refusal_same h s (SetTaskWeight t x) = ap (λ (b : Bool). cond b (cond (is_outside max_weight x) (Some BadWeight) None) (Some UnknownTask)) (known h s.world t)
 
 -- ---- tasks that are idle in one state
 
@@ -98,17 +90,8 @@ module _ (h : Omitted) (p : PolicyState) (tells : TellNothing h p) where
 
   -- ---- rounds
 
-  pending_same : (n : ℕ) (w : WorldState) → pending_below n w ≡ pending_below n (omit h w)
-  unfolding pending_below
-  pending_same zero w = refl
-  pending_same (suc n) w = ap (λ (o : Option ℕ). or_this o (this_if (is_pending w n) n)) (pending_same n w)
-
-  next_same : (s : State) → next_to_look s ≡ next_to_look (omit_state h s)
-  unfolding next_to_look
-  next_same s = ap (λ (o : Option ℕ). if is_by_linux s then o else None) (pending_same (length s.world.cpus) s.world)
-
   next_alike : (s t : State) → omit_state h s ≡ omit_state h t → next_to_look s ≡ next_to_look t
-  next_alike s t same = next_same s ∙ ap next_to_look same ∙ sym (next_same t)
+  next_alike s t same = next_same h p tells s ∙ ap next_to_look same ∙ sym (next_same h p tells t)
 
   then_alike : (next : State → Stepped) → ((s t : State) → omit_state h s ≡ omit_state h t → s.policy ≡ p → Passes h p (next s) (next t)) → (o : Option ℕ) (s t : State) → omit_state h s ≡ omit_state h t → s.policy ≡ p
       → Passes h p (round_then next s o) (round_then next t o)

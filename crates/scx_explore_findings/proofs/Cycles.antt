@@ -1,15 +1,16 @@
 -- A scheduling cycle leads from two states that are the same but for what is left out to two such states, if the slice of the
 -- task before isn't left out.
-use Rattle.std.proofs.Common.{◌≡◌, ℕ, zero, suc, ◌==◌, ◌&&◌, not, Bool, true, false, if◌then◌else◌, List, [], ◌∷◌, Option, Some, None, refl, sym, ap, ◌∙◌, subst, option_map}
+use Rattle.std.proofs.Common.{◌≡◌, ℕ, zero, suc, ◌==◌, ◌&&◌, not, Bool, true, false, if◌then◌else◌, List, [], ◌∷◌, Option, Some, None, refl, sym, ap, ◌∙◌, subst, option_map, length}
 use Rattle.scx_dsq.specs.Queues.{len_of, front_of, entry_of, is_in}
 use Rattle.scx_isa_semantics.specs.declared.callbacks.Callback.TheVariants as callback
 use Rattle.scx_sched_world.specs.declared.notes.Note.{Note}
 use Rattle.scx_sched_world.specs.declared.notes.What.TheVariants.{Stop, Run}
 use Rattle.scx_sched_world.specs.Ids.{builtin_queue, local_on}
-use Rattle.scx_sched_world.specs.World.{WorldState, with_cycling, out_of_cycle, with_kick, without_kick, task_at, running, note_now}
+use Rattle.scx_sched_world.specs.World.{WorldState, with_cycling, out_of_cycle, with_kick, without_kick, task_at, running, note_now, or_this, this_if}
 use Rattle.scx_sched_world.specs.CpuSets.{is_in_set}
 use Rattle.scx_sched_world.specs.Tasks.{local_len, after_stop, started_at, after_run, after_switch, after_keep, to_front}
 use Rattle.scx_sched_world.specs.Ejecting.{after_catch_up, after_charge}
+use Rattle.scx_sched_world.specs.Pending.{is_pending, pending_below}
 use Rattle.scx_sched_machine.specs.Policy.{PolicyState}
 use Rattle.scx_sched_machine.specs.Steps.{State, Stepped, with_world, is_ejected, is_by_linux, stays, one_after_other}
 use Rattle.scx_sched_machine.specs.Callbacks.{call_back, noted_by, one_task, task_and_number, two_numbers, cpu_and_task}
@@ -18,7 +19,7 @@ use Rattle.scx_sched_machine.specs.Put.{enters, put}
 use Rattle.scx_sched_machine.specs.Filling.{fill}
 use Rattle.scx_sched_machine.specs.Parking.{park_next, supply}
 use Rattle.scx_sched_machine.specs.Cycle.{has_local, keeps_slice, supply_unless_kept, told_of, dispatch_called, after_dispatch, asks_again, tries, stopping_called, after_stopping, after_running, put_back, leave, switched, started_if, start, hears_idle, tells_idle, idle_note, rest_notes, kept, rest, swap, swap_or_rest, builtin_dispatch, builtin_fill, builtin_ask, builtin_cycle, start_or_cycle, refilled, is_local, start_picked, start_picked_or_cycle, picked, tells_busy, makes_way, pick, pick_or_rest, keep_or_pick, conclude, give_up, ask, seek, look, cycling, falls_idle, notes_idle, idle_or_anew, becomes_idle, concluded, cycle}
-use Rattle.scx_sched_machine.specs.Rounds.{cut_off_if, look_past, look_from, round}
+use Rattle.scx_sched_machine.specs.Rounds.{cut_off_if, look_past, look_from, round, next_to_look}
 use Rattle.scx_sched_machine.proofs.Choices.{keeps_if}
 use Rattle.std.proofs.lemmas.Bool.{eqb-true}
 use Rattle.scx_dsq.specs.declared.entries.Entry.{Entry}
@@ -336,6 +337,16 @@ module _ (h : Omitted) (p : PolicyState) (tells : TellNothing h p) where
       (after_turn h p (λ x. cycling x (Some c)) (λ x. look x c o ran) (turns_cycling (Some c)) (passes_look c o ran out) s is) (passes_concluded c ran)
 
   -- ---- rounds
+
+  pending_same : (n : ℕ) (w : WorldState) → pending_below n w ≡ pending_below n (omit h w)
+  unfolding pending_below
+  pending_same zero w = refl
+  pending_same (suc n) w = ap (λ (o : Option ℕ). or_this o (this_if (is_pending w n) n)) (pending_same n w)
+
+  -- the CPU that is to look for work is the same
+  pub next_same : (s : State) → next_to_look s ≡ next_to_look (omit_state h s)
+  unfolding next_to_look
+  next_same s = ap (λ (o : Option ℕ). if is_by_linux s then o else None) (pending_same (length s.world.cpus) s.world)
 
   turns_cut_off : (cut : Bool) (t : ℕ) → Turns h p (λ s. cut_off_if cut s t)
   turns_cut_off false t s = (ap (λ (u : WorldState). with_world s u) (plain h s.world), refl)

@@ -20,6 +20,7 @@ use Rattle.scx_sched_machine.specs.Events.{event_step}
 use Rattle.scx_sched.specs.Sim.{SimState, max_events, refusal, stepped_if, after_event}
 use Rattle.scx_explore_states.specs.declared.form.Form.{Form}
 use Rattle.scx_explore_states.specs.Rows.{kept, is_by_vtime, ahead_of, entries_of, place_of, is_idle, spot_of, bit_of, row_of, no_row, task_row, rows_of}
+use Rattle.scx_explore_states.specs.NotZero.{kept_words}
 use Rattle.scx_explore_states.specs.Written.{task_in, home_at, task_words, kept_word, time_words, usage_words, used_words, rules_words, past_tick, linux_words, map_words, state_words, IsWritten}
 use Rattle.scx_explore_findings.specs.Findings.{fault_in, stall_in, exit_in, is_left, waits_left, IsFirstLeft, IsIdleBehind}
 use Rattle.scx_explore_findings.specs.Delayed.{later_by, delayed_task, delayed_alarm, delayed_eject, delayed_note, delay, delay_state, delay_machine, AreClockless, IsSteady, EventsDontTellTimes}
@@ -164,17 +165,17 @@ module _ (k : ℕ) where
           none_by (are_linux s.state.world.rules) here rules ∙ sym (none_by (are_linux s.state.world.rules) there rules)
 
       -- what is kept beside the tasks
-      rest_as : time_words f s.state.world ++ (usage_words s.state.world ++ (rules_words s.state ++ map_words s.state.maps))
-          ≡ time_words f (delay k s.state.world) ++ (usage_words (delay k s.state.world) ++ (rules_words (delay_state k s.state) ++ map_words s.state.maps))
+      rest_as : time_words f s.state.world ++ (usage_words s.state.world ++ (rules_words s.state ++ kept_words f.map_words (map_words s.state.maps)))
+          ≡ time_words f (delay k s.state.world) ++ (usage_words (delay k s.state.world) ++ (rules_words (delay_state k s.state) ++ kept_words f.map_words (map_words s.state.maps)))
       rest_as =
-          ap (λ (xs : List ℕ). xs ++ (usage_words s.state.world ++ (rules_words s.state ++ map_words s.state.maps))) times_as
-          ∙ ap (λ (xs : List ℕ). time_words f (delay k s.state.world) ++ (xs ++ (rules_words s.state ++ map_words s.state.maps))) usages_as
-          ∙ ap (λ (xs : List ℕ). time_words f (delay k s.state.world) ++ (usage_words (delay k s.state.world) ++ (xs ++ map_words s.state.maps))) rules_as
+          ap (λ (xs : List ℕ). xs ++ (usage_words s.state.world ++ (rules_words s.state ++ kept_words f.map_words (map_words s.state.maps)))) times_as
+          ∙ ap (λ (xs : List ℕ). time_words f (delay k s.state.world) ++ (xs ++ (rules_words s.state ++ kept_words f.map_words (map_words s.state.maps)))) usages_as
+          ∙ ap (λ (xs : List ℕ). time_words f (delay k s.state.world) ++ (usage_words (delay k s.state.world) ++ (xs ++ kept_words f.map_words (map_words s.state.maps)))) rules_as
 
       words_as : (order : List ℕ) → state_words f (rows_of f s.state.world ids) order s ≡ state_words f (rows_of f (delay k s.state.world) ids) order (delay_machine k s)
       words_as order =
           let w = s.state.world in
-          let rest : List ℕ = time_words f w ++ (usage_words w ++ (rules_words s.state ++ map_words s.state.maps)) in
+          let rest : List ℕ = time_words f w ++ (usage_words w ++ (rules_words s.state ++ kept_words f.map_words (map_words s.state.maps))) in
           ap (λ rows. task_words f rows order (min (length w.tasks) 8) ++ rest) (rows_as w)
           ∙ ap (λ (n : ℕ). task_words f (rows_of f (delay k w) ids) order (min n 8) ++ rest) (as_long (delayed_task k) w.tasks)
           ∙ ap (λ (xs : List ℕ). task_words f (rows_of f (delay k w) ids) order (min (length (delay k w).tasks) 8) ++ xs) rest_as

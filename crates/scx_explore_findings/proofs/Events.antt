@@ -1,6 +1,6 @@
 -- Each event leads from two states that are the same but for what is left out to two such states, if no task runs whose slice
 -- is left out.
-use Rattle.std.proofs.Common.{◌≡◌, ℕ, zero, suc, ◌==◌, ◌&&◌, true, false, cond, nat_lt, [], ◌∷◌, length, Option, Some, None, refl, sym, ap, ◌∙◌, subst, List, inr}
+use Rattle.std.proofs.Common.{◌≡◌, ℕ, zero, suc, ◌==◌, ◌&&◌, Bool, true, false, cond, nat_lt, [], ◌∷◌, length, Option, Some, None, refl, sym, ap, ◌∙◌, subst, List, inr}
 use Rattle.scx_dsq.specs.Queues.{len_of, front_of, behind_of}
 use Rattle.scx_isa_semantics.specs.declared.callbacks.Callback.TheVariants as callback
 use Rattle.scx_vm.specs.Programs.{VerifiedProgram}
@@ -12,6 +12,8 @@ use Rattle.scx_sched_world.specs.Ids.{parked_queue}
 use Rattle.scx_sched_world.specs.World.{WorldState, with_switch, with_kick, with_slept, with_waker, with_timer_at_hand, task_at, is_runnable, first_home, is_throttled, waits, running, cpu_of, is_idle, choice, after_claim, at_callback, note_now, is_this, this_if, or_this}
 use Rattle.scx_sched_world.specs.Tasks.{for_cpu, to_local, homed, after_wake, after_sleep, after_leave, after_stop, let_go, after_tick, used_ms, later, begun_periods, after_reweigh, after_own_weight}
 use Rattle.scx_sched_world.specs.Helpers.{with_insert, alarm_at, due_now, after_fire}
+use Rattle.scx_weights.specs.Refusals.{max_weight, is_outside}
+use Rattle.scx_sched_machine.specs.declared.events.Refused.TheVariants.{AlreadyRunnable, NotRunnable, UnknownTask, BadWeight}
 use Rattle.scx_sched_machine.specs.declared.events.Event.{Event}
 use Rattle.scx_sched_machine.specs.declared.events.Event.TheVariants.{Wake, Sleep, Tick, Clock, SetWeight, SetTaskWeight}
 use Rattle.scx_sched_machine.specs.Policy.{PolicyState}
@@ -22,7 +24,7 @@ use Rattle.scx_sched_machine.specs.Firing.{due, fired, fires, fire, fire_below, 
 use Rattle.scx_sched_machine.specs.Put.{put}
 use Rattle.scx_sched_machine.specs.Parking.{park, let_go_one, let_go_from, let_all_go}
 use Rattle.scx_sched_machine.specs.Cycle.{after_stopping, cycle}
-use Rattle.scx_sched_machine.specs.Events.{cpu_or_home, answered_cpu, target, insert_or_put, woken, wake_target, comes_to, while_in_force, told_runnable, settle, inserted_by_choice, chosen_by_default, chosen, ask_target, asks_target, settle_at_home, select, from_waker, wake, told_of_sleep, falls_asleep, looks_after_sleep, leaves_cpu, leaves_queue, sleep_from_cpu, sleep_from_queue, sleep_from, sleep, throttle, ends_slices, expire, use_up, hears_tick, tick_heard, count_down, tick_idle, tick_of, tick, overdue, eject_if_stalled, watch, timers_and_watchdog, clock, restore_flag, change_flags, takes_weight, changes_weight, reweigh_running, reweigh_waiting, reweigh_off_cpu, reweigh_at, reweigh_by_linux, reweigh, own_step}
+use Rattle.scx_sched_machine.specs.Events.{cpu_or_home, answered_cpu, target, insert_or_put, woken, wake_target, comes_to, while_in_force, told_runnable, settle, inserted_by_choice, chosen_by_default, chosen, ask_target, asks_target, settle_at_home, select, from_waker, wake, told_of_sleep, falls_asleep, looks_after_sleep, leaves_cpu, leaves_queue, sleep_from_cpu, sleep_from_queue, sleep_from, sleep, throttle, ends_slices, expire, use_up, hears_tick, tick_heard, count_down, tick_idle, tick_of, tick, overdue, eject_if_stalled, watch, timers_and_watchdog, clock, restore_flag, change_flags, takes_weight, changes_weight, reweigh_running, reweigh_waiting, reweigh_off_cpu, reweigh_at, reweigh_by_linux, reweigh, own_step, refusal}
 use Rattle.scx_sched_machine.proofs.Choices.{keeps_if}
 use Rattle.scx_sched_world.specs.World as world
 use Rattle.scx_sched_machine.specs.Rounds.{round}
@@ -30,10 +32,19 @@ use Rattle.scx_explore_findings.specs.HiddenStates.{once_let_go, once_later, lat
 use Rattle.scx_explore_findings.specs.IdleSlices.{runs_on}
 use Rattle.scx_explore_findings.proofs.Omitting.{Omitted, omit, omit_state, omit_step, IfAny, if_any}
 use Rattle.scx_explore_findings.proofs.IdleTasks.{out_busy, may_enter, on_that, on_one}
-use Rattle.scx_explore_findings.proofs.Worlds.{Hides, plain, both, by_linux, read, read_busy, throttled_same, chosen_same, choice_same, hides_homed, hides_stop, hides_begin_switch, hides_waker, hides_claim, overdue_same, hides_leave, hides_wake, hides_sleep, hides_let_go, hides_tick, hides_used, hides_reweigh, hides_own_weight}
+use Rattle.scx_explore_findings.proofs.Worlds.{Hides, plain, both, by_linux, read, read_busy, throttled_same, chosen_same, choice_same, hides_homed, hides_stop, hides_begin_switch, hides_waker, hides_claim, overdue_same, hides_leave, hides_wake, hides_sleep, hides_let_go, hides_tick, hides_used, hides_reweigh, hides_own_weight, known}
 use Rattle.scx_explore_findings.proofs.Helpers.{Wants, wants_homed, wants_claimed}
 use Rattle.scx_explore_findings.proofs.Steps.{TellNothing, Passes, On, from, OnGiven, from_given, in_world, Turns, after_turn, turns_world, turned, turns_if, chain, chain_given, noted, choose, single, rests, passes_eject, answered_same, passes_call_back, call_back_wants, passes_call_by_linux, passes_enters, passes_put, passes_park}
 use Rattle.scx_explore_findings.proofs.Cycles.{IsOut, passes_dequeued, passes_stopping, passes_cycle, passes_round}
+
+-- an event of one of two such states is refused for the same cause in the other one
+pub refusal_same : (h : Omitted) (s : State) (e : Event) → refusal s e ≡ refusal (omit_state h s) e
+refusal_same h s (Wake t) = ap (λ (b : Bool). cond b (cond (is_runnable s.world t) (Some AlreadyRunnable) None) (Some UnknownTask)) (known h s.world t)
+refusal_same h s (Sleep t) = ap (λ (b : Bool). cond b (cond (is_runnable s.world t) None (Some NotRunnable)) (Some UnknownTask)) (known h s.world t)
+refusal_same h s (Tick c) = refl
+refusal_same h s Clock = refl
+refusal_same h s (SetWeight g x) = refl
+refusal_same h s (SetTaskWeight t x) = ap (λ (b : Bool). cond b (cond (is_outside max_weight x) (Some BadWeight) None) (Some UnknownTask)) (known h s.world t)
 
 -- what a choice of a processor wants to insert has a slice
 chosen_wants : (q : Option VerifiedProgram) (s : State) (t : ℕ) → Wants s.world.call.insert → Wants (chosen q s t).world.call.insert

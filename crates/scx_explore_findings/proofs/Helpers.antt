@@ -421,15 +421,15 @@ wants_other w f a none h = by_helper InsertsNone WantsIn w (record {
   faulty = λ x. h;
   ended = λ n. h;
   created = λ may q. h;
-  inserted = λ may t i fifo. absurd may;
-  by_vtime = λ may t i. absurd may;
   late = h;
-  moved = λ o. wants_moved w o h;
-  claimed = λ o. wants_claimed w o h;
   kicked = λ c. h;
   preempted = λ c. h;
   timed = λ n o. h;
   drawn = λ may. h;
+  inserted = λ may t i fifo. absurd may;
+  by_vtime = λ may t i. absurd may;
+  moved = λ o. wants_moved w o h;
+  claimed = λ o. wants_claimed w o h;
 }) f none a
 
 inserts_or_not : (f : Helper) → ((a : List Arg) (w : WorldState) → IsGivenSlice f a → WantsIn w → WantsIn (helper_after w f a)) ⊎ InsertsNone f

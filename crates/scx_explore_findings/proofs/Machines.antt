@@ -16,8 +16,8 @@ use Rattle.scx_explore_findings.specs.HiddenLaws.{EventsDontDepend, ListsDontDep
 use Rattle.scx_explore_findings.specs.IdleSlices.{any_task, EventsTellNoIdleSlices}
 use Rattle.scx_explore_findings.proofs.Omitting.{Omitted, omit_state, omit_call}
 use Rattle.scx_explore_findings.proofs.Steps.{TellNothing, Passes}
-use Rattle.scx_explore_findings.proofs.Events.{late_same}
-use Rattle.scx_explore_findings.proofs.AnyRounds.{refusal_same, passes_event}
+use Rattle.scx_explore_findings.proofs.Events.{refusal_same, late_same}
+use Rattle.scx_explore_findings.proofs.AnyRounds.{passes_event}
 use Rattle.scx_explore_findings.proofs.LeftOut.{omit_machine, parts_alone, parts_machine, parts_same, parts_calls, slices_alone, slices_machine, slices_same, slices_unread}
 
 -- ---- whatever is left out

@@ -17,6 +17,7 @@ use Rattle.scx_sched.specs.Sim.{SimState}
 use Rattle.scx_explore_states.specs.declared.form.Form.{Form}
 use Rattle.scx_explore_states.specs.Rows.{bit_of, kept, waiting_key, by_vtime_in, is_by_vtime, is_ahead, ahead_of, entries_of, place_of, is_idle, spot_of, row_of, no_row, task_row, rows_of}
 use Rattle.scx_explore_states.specs.Words.{number_in}
+use Rattle.scx_explore_states.specs.NotZero.{kept_words}
 use Rattle.scx_explore_states.specs.Written.{kept_word, task_words, used_words, usage_words, flags_word, flags_words, alarm_words, timer_words, linux_words, past_tick, map_words, state_words, AreKnown, IsWritten}
 use Rattle.scx_explore_findings.specs.Findings.{is_left, leaves_global, waits_left, IsFirstLeft, IsIdleBehind}
 use Rattle.scx_explore_findings.specs.declared.finding.Finding.{Finding}
@@ -25,6 +26,7 @@ use Rattle.scx_explore_findings.specs.QueueOrder.{rank_left, unnumbered, leads}
 use Rattle.scx_explore_findings.specs.UnreadParts.{Parts, Fits, AreSame, SuchPartsShowNothing, parts_of, with_parts}
 use Rattle.scx_explore_findings.proofs.SameQueues.{queue_same}
 use Rattle.scx_explore_findings.proofs.SameSteps.{re}
+use Rattle.scx_explore_findings.proofs.Shown.{idle_there}
 
 -- ---- processors that are idle
 
@@ -41,19 +43,8 @@ module _ (s t : SimState) (same : AreSame s t) where
   idle_same : (c : ℕ) → running t.state.world c ≡ running s.state.world c
   idle_same c = sym (ap (λ (x : State). running x.world c) same.rest)
 
-  first_left : (c : ℕ) (o : Option ℕ) → IsFirstLeft s.state.world c o → IsFirstLeft t.state.world c o
-  first_left c None k = λ u l. left_same c u ∙ k u (subst (λ (n : ℕ). u < n) (sym as_many) l)
-  first_left c (Some u) k = (subst (λ (n : ℕ). u < n) as_many k.0, left_same c u ∙ k.1, λ v l. left_same c v ∙ k.2 v l)
-
-  idle_there : (e : Event) (o : Option Finding) → IsIdleBehind s e o → IsIdleBehind t e o
-  idle_there e None k = λ c is free. first_left c None (k c is (sym (idle_same c) ∙ free))
-  idle_there e (Some (finding.Idle c u)) k = (k.0, idle_same c ∙ k.1, first_left c (Some u) k.2)
-  idle_there e (Some (finding.Fault f)) k = k
-  idle_there e (Some (finding.Stall u)) k = k
-  idle_there e (Some (finding.Exit n)) k = k
-  idle_there e (Some (finding.Overtaken p)) k = k
-  idle_there e (Some (finding.Waits u ms)) k = k
-  idle_there e (Some (finding.Takes b n)) k = k
+  idle_alike : (e : Event) (o : Option Finding) → IsIdleBehind s e o → IsIdleBehind t e o
+  idle_alike = idle_there s t as_many left_same idle_same
 
 -- ---- rows of tasks
 
@@ -215,7 +206,7 @@ module _ (f : Form) (no_pushes : f.pushes ≡ false) (ids : List ℕ) (s : SimSt
       let rows = rows_same f no_pushes ids w z m in
       let used = usages_same f no_pushes ids w z m in
       let linux = linux_same f no_pushes ids w z m (past_tick s.state.policy.tick_ms w.clock) in
-      λ i. task_words f (rows i) order (min (length w.tasks) 8) ++ ((kept_word f.clock w.clock ++ (no i ++ kept_word f.random w.random)) ++ (used i ++ (linux i ++ map_words s.state.maps)))
+      λ i. task_words f (rows i) order (min (length w.tasks) 8) ++ ((kept_word f.clock w.clock ++ (no i ++ kept_word f.random w.random)) ++ (used i ++ (linux i ++ kept_words f.map_words (map_words s.state.maps))))
 
   written_there : (xs : List ℕ) → IsWritten f ids xs s → IsWritten f ids xs other
   written_there xs is = record {
@@ -240,7 +231,7 @@ uncounted f ids xs x n k is = record {
 pub such_parts_show_nothing : SuchPartsShowNothing
 such_parts_show_nothing s t same = record {
   ejected = ap (λ (x : State). x.world.ejected) same.rest;
-  idle = idle_there s t same;
+  idle = idle_alike s t same;
   written = λ f ids xs none is.
       uncounted f ids xs t.state s.events t.events
       (subst (λ (x : State). IsWritten f ids xs (record { state = x; events = s.events })) same.rest (written_there f none ids s (parts_of t.state.world) same.parts xs is));

@@ -21,6 +21,22 @@ use Rattle.scx_explore_findings.proofs.Words.{words_dont_depend}
 
 -- ---- what is shown
 
+module _ (s t : SimState) (as_many : length s.state.world.tasks ≡ length t.state.world.tasks) (left_same : (c u : ℕ) → waits_left t.state.world c u ≡ waits_left s.state.world c u) (idle_same : (c : ℕ) → running t.state.world c ≡ running s.state.world c) where
+  first_left : (c : ℕ) (o : Option ℕ) → IsFirstLeft s.state.world c o → IsFirstLeft t.state.world c o
+  first_left c None k = λ u l. left_same c u ∙ k u (subst (λ (n : ℕ). u < n) (sym as_many) l)
+  first_left c (Some u) k = (subst (λ (n : ℕ). u < n) as_many k.0, left_same c u ∙ k.1, λ v l. left_same c v ∙ k.2 v l)
+
+  -- of as many tasks, of which the same are left, in both the same CPU is idle while the same task waits
+  pub idle_there : (e : Event) (o : Option Finding) → IsIdleBehind s e o → IsIdleBehind t e o
+  idle_there e None k = λ c is free. first_left c None (k c is (sym (idle_same c) ∙ free))
+  idle_there e (Some (finding.Idle c u)) k = (k.0, idle_same c ∙ k.1, first_left c (Some u) k.2)
+  idle_there e (Some (finding.Fault f)) k = k
+  idle_there e (Some (finding.Stall u)) k = k
+  idle_there e (Some (finding.Exit n)) k = k
+  idle_there e (Some (finding.Overtaken p)) k = k
+  idle_there e (Some (finding.Waits u ms)) k = k
+  idle_there e (Some (finding.Takes b n)) k = k
+
 module _ (h : Omitted) (s t : SimState) (same : omit_machine h s ≡ omit_machine h t) where
   as_many : length s.state.world.tasks ≡ length t.state.world.tasks
   as_many = length_same h.parts (is_idle_of h.idle s.state.world) s.state.world.tasks ∙ ap (λ (y : SimState). length y.state.world.tasks) same ∙ sym (length_same h.parts (is_idle_of h.idle t.state.world) t.state.world.tasks)
@@ -31,32 +47,20 @@ module _ (h : Omitted) (s t : SimState) (same : omit_machine h s ≡ omit_machin
   idle_same : (c : ℕ) → running t.state.world c ≡ running s.state.world c
   idle_same c = ap (λ (y : SimState). running y.state.world c) (sym same)
 
-  first_left : (c : ℕ) (o : Option ℕ) → IsFirstLeft s.state.world c o → IsFirstLeft t.state.world c o
-  first_left c None k = λ u l. left_same c u ∙ k u (subst (λ (n : ℕ). u < n) (sym as_many) l)
-  first_left c (Some u) k = (subst (λ (n : ℕ). u < n) as_many k.0, left_same c u ∙ k.1, λ v l. left_same c v ∙ k.2 v l)
-
-  -- the same CPU is idle while the same task waits
-  idle_there : (e : Event) (o : Option Finding) → IsIdleBehind s e o → IsIdleBehind t e o
-  idle_there e None k = λ c is free. first_left c None (k c is (sym (idle_same c) ∙ free))
-  idle_there e (Some (finding.Idle c u)) k = (k.0, idle_same c ∙ k.1, first_left c (Some u) k.2)
-  idle_there e (Some (finding.Fault f)) k = k
-  idle_there e (Some (finding.Stall u)) k = k
-  idle_there e (Some (finding.Exit n)) k = k
-  idle_there e (Some (finding.Overtaken p)) k = k
-  idle_there e (Some (finding.Waits u ms)) k = k
-  idle_there e (Some (finding.Takes b n)) k = k
+  idle_alike : (e : Event) (o : Option Finding) → IsIdleBehind s e o → IsIdleBehind t e o
+  idle_alike = idle_there s t as_many left_same idle_same
 
 -- machines that are the same but for what is hidden show the same
 pub same_machines_show_the_same : SameMachinesShowTheSame
 same_machines_show_the_same h s t same = record {
   ejected = ap (λ (y : SimState). y.state.world.ejected) same;
-  idle = idle_there (parts_alone h) s t (parts_same h s t same);
+  idle = idle_alike (parts_alone h) s t (parts_same h s t same);
   written = λ f ids xs out is. words_dont_depend h f ids xs s t out same is;
 }
 
 -- and with slices of idle tasks alone left out too
 pub idle_shown : (s t : SimState) → IdleAreSame s t → (e : Event) (o : Option Finding) → IsIdleBehind s e o → IsIdleBehind t e o
-idle_shown s t same = idle_there (slices_alone any_task) s t (slices_same any_task s t same)
+idle_shown s t same = idle_alike (slices_alone any_task) s t (slices_same any_task s t same)
 
 -- ---- lists that are short enough
 

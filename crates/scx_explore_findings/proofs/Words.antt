@@ -10,6 +10,7 @@ use Rattle.scx_sched_world.specs.Helpers.{cpus_of, alarm_at}
 use Rattle.scx_sched.specs.Sim.{SimState}
 use Rattle.scx_explore_states.specs.declared.form.Form.{Form}
 use Rattle.scx_explore_states.specs.Rows.{kept, is_by_vtime, ahead_of, entries_of, place_of, is_idle, spot_of, bit_of, row_of, no_row, task_row, rows_of}
+use Rattle.scx_explore_states.specs.NotZero.{kept_words}
 use Rattle.scx_explore_states.specs.Written.{home_at, task_words, time_words, usage_words, flags_word, flags_words, alarm_words, timer_words, past_tick, map_words, state_words, IsWritten, AreKnown}
 use Rattle.scx_explore_findings.specs.HiddenLaws.{LeavesOut, WordsDontDepend}
 use Rattle.scx_explore_findings.specs.Hidden.{unless, since_unless}
@@ -118,7 +119,7 @@ module _ (h : Omitted) (f : Form) (out : LeavesOut f h.parts) (slices : IfAny h.
   words_same order s =
       let w = s.state.world in
       let rules : List ℕ → List ℕ → List ℕ = λ fs ts. if are_linux w.rules then past_tick s.state.policy.tick_ms w.clock ∷ (fs ++ ts) else [] in
-      let rest : List ℕ → List ℕ → List ℕ = λ fs ts. time_words f w ++ (usage_words w ++ (rules fs ts ++ map_words s.state.maps)) in
+      let rest : List ℕ → List ℕ → List ℕ = λ fs ts. time_words f w ++ (usage_words w ++ (rules fs ts ++ kept_words f.map_words (map_words s.state.maps))) in
       let flags = flags_words w (length w.cpus) in
       let timers = timer_words w (length w.timers) in
       ap (λ rows. task_words f rows order (min (length w.tasks) 8) ++ rest flags timers) (rows_same w)

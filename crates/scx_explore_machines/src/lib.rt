@@ -13,7 +13,7 @@ mod revisits;
 mod seen;
 
 pub use look::Look;
-pub use machines::{Machines, push};
+pub use machines::{Machines, most_machines, push};
 pub use most::Most;
 pub use revisits::{Between, Lost, Origin, Revisits};
 pub use seen::{Entered, Seen, Way};

@@ -7,6 +7,17 @@ use std::marker::Model;
 /// The number of states of a list that keep their machines, from its end backwards.
 const TRAIL: usize = 64;
 
+/// The most bytes of the maps of all machines together.
+const MOST_MAP_BYTES: usize = 268_435_456;
+
+/// The bytes that are counted for the maps of a machine at least: a list may have 8,192 events.
+const LEAST_MAP_BYTES: usize = 32_768;
+
+/// The most machines like that one for which there is memory at a time: 8,192, or less where their maps are large.
+pub fn most_machines(sim: &Sim) -> usize {
+    MOST_MAP_BYTES / sim.maps().bytes().len().max(LEAST_MAP_BYTES)
+}
+
 /// A state and the number of its machine.
 #[derive(Clone, Copy)]
 struct Held {

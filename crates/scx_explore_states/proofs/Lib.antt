@@ -1,5 +1,6 @@
 mod Eight
 mod Placed
 mod Putting
+mod Pairs
 mod Spots
 pub mod Telling

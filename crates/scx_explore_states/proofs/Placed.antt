@@ -23,9 +23,9 @@ any_default rows k d e l = any rows k d e l
 pub contains_at : (xs : List ℕ) (k x d : ℕ) → k < length xs → get_or xs k d ≡ x → Contains xs x
 contains_at xs k x d l is = (k, l, any xs k x d l ∙ is)
 
--- at most eight are their own first eight
-pub few_are_all : (xs ys : List ℕ) → ys ≡ xs → length ys ≤ 8 → ys ≡ take 8 xs
-few_are_all xs ys is few = is ∙ sym (take_all 8 xs (subst (λ (l : List ℕ). length l ≤ 8) is few))
+-- where there are no more they are their own first ones
+pub few_are_all : (xs ys : List ℕ) (n : ℕ) → ys ≡ xs → length ys ≤ n → ys ≡ take n xs
+few_are_all xs ys n is few = is ∙ sym (take_all n xs (subst (λ (l : List ℕ). length l ≤ n) is few))
 
 -- what holds of each number so far, and of the next one
 pub below_more : (P : ℕ → Type 0) (n : ℕ) → ((t : ℕ) → t < n → P t) → P n → (t : ℕ) → t < n + 1 → P t

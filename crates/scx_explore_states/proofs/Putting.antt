@@ -13,6 +13,7 @@ use Rattle.scx_sched.specs.Sim.{SimState}
 use Rattle.scx_explore_states.specs.declared.form.Form.{Form}
 use Rattle.scx_explore_states.specs.declared.rows.Row.{Row}
 use Rattle.scx_explore_states.specs.Rows.{entries_of, rows_of}
+use Rattle.scx_explore_states.specs.NotZero.{kept_words}
 use Rattle.scx_explore_states.specs.Written.{AreKnown, IsFair, IsWritten, byte_words, map_words, eight_at, joined, kept_word, row_in, flags_word, flags_words, until_due, cpu_of_alarm, alarm_words, timer_words, linux_words, past_tick, row_words, rows_words, rules_words, spot_words, state_words, task_words, time_words, usage_words, used_words, word_from, word_of}
 
 -- a part behind others
@@ -90,10 +91,10 @@ five : (o ps qs rs ts us : List ℕ) → ((((o ++ ps) ++ qs) ++ rs) ++ ts) ++ us
 five o ps qs rs ts us = append_assoc (((o ++ ps) ++ qs) ++ rs) ts us ∙ four o ps qs rs (ts ++ us)
 
 -- all of them but the first word
-pub state_parts : (f : Form) (rows : List Row) (order : List ℕ) (s : SimState) (n : ℕ) (old xs ys zs us new : List ℕ) → n ≡ min (length s.state.world.tasks) 8 → xs ≡ old ++ task_words f rows order n → ys ≡ xs ++ time_words f s.state.world → zs ≡ ys ++ usage_words s.state.world → us ≡ zs ++ rules_words s.state → new ≡ us ++ map_words s.state.maps → new ≡ old ++ state_words f rows order s
+pub state_parts : (f : Form) (rows : List Row) (order : List ℕ) (s : SimState) (n : ℕ) (old xs ys zs us new : List ℕ) → n ≡ min (length s.state.world.tasks) 8 → xs ≡ old ++ task_words f rows order n → ys ≡ xs ++ time_words f s.state.world → zs ≡ ys ++ usage_words s.state.world → us ≡ zs ++ rules_words s.state → new ≡ us ++ kept_words f.map_words (map_words s.state.maps) → new ≡ old ++ state_words f rows order s
 state_parts f rows order s n old xs ys zs us new many first second third fourth last =
     let w = s.state.world in
-    let held : List ℕ = map_words s.state.maps in
+    let held : List ℕ = kept_words f.map_words (map_words s.state.maps) in
     let rest : List ℕ = time_words f w ++ (usage_words w ++ (rules_words s.state ++ held)) in
     last
     ∙ (ap (λ (l : List ℕ). l ++ held) (fourth ∙ (ap (λ (l : List ℕ). l ++ rules_words s.state) (third ∙ (ap (λ (l : List ℕ). l ++ usage_words w) (second ∙ ap (λ (l : List ℕ). l ++ time_words f w) first)))))

@@ -18,30 +18,14 @@ use Rattle.scx_explore_states.specs.declared.rows.Row.{Row}
 use Rattle.scx_explore_states.specs.Rows.{kept, bit_of, waiting_key, is_by_vtime, ahead_of, entries_of, place_of, spot_of, row_of, no_row, task_row, rows_of}
 use Rattle.scx_explore_states.specs.Written.{joined, kept_word, own_order, task_in, row_in, spot_words, row_words, rows_words, time_words, used_words, usage_words, flags_word, flags_words, alarm_words, timer_words, linux_words, rules_words, map_words, past_tick, task_words, state_words}
 use Rattle.scx_explore_states.specs.Words.{number_in, most_queues}
+use Rattle.scx_explore_states.specs.NotZero.{kept_words}
 use Rattle.scx_explore_states.specs.Laws.{Fits}
 use Rattle.scx_explore_states.specs.Telling.{AreOfOneShape, IsKeptAlike, KeepTheSame, WordsTell}
+use Rattle.scx_explore_states.proofs.Pairs.{same_first, same_rest, same_words}
 use Rattle.scx_explore_states.proofs.Placed.{own_tasks}
 use Rattle.scx_explore_states.proofs.Spots.{numbers_tell, bit_small}
 
 -- ---- lists
-
--- the first of a list, or that one
-first_or : ℕ → List ℕ → ℕ
-first_or d [] = d
-first_or d (x ∷ xs) = x
-
--- a list without its first
-rest_of : List ℕ → List ℕ
-rest_of [] = []
-rest_of (x ∷ xs) = xs
-
-same_first : (x y : ℕ) (xs ys : List ℕ) → x ∷ xs ≡ y ∷ ys → x ≡ y
-unfolding first_or
-same_first x y xs ys e = ap (λ (l : List ℕ). first_or x l) e
-
-same_rest : (x y : ℕ) (xs ys : List ℕ) → x ∷ xs ≡ y ∷ ys → xs ≡ ys
-unfolding rest_of
-same_rest x y xs ys e = ap rest_of e
 
 -- of two lists that are the same the first parts are, where they are as long, and so are the rests
 parts_same : (xs ys us vs : List ℕ) → length xs ≡ length us → xs ++ ys ≡ us ++ vs → (xs ≡ us) × (ys ≡ vs)
@@ -349,8 +333,8 @@ module _ (f : Form) (ids : List ℕ) (few : length ids ≤ most_queues) (s t : S
       let qs = rows_of f w ids in
       let n = min (length v.tasks) 8 in
       let many : min (length w.tasks) 8 ≡ n = ap (λ (k : ℕ). min k 8) (sym shape.tasks) in
-      let rest = rules_words s.state ++ map_words s.state.maps in
-      let rest' = rules_words t.state ++ map_words t.state.maps in
+      let rest = rules_words s.state ++ kept_words f.map_words (map_words s.state.maps) in
+      let rest' = rules_words t.state ++ kept_words f.map_words (map_words t.state.maps) in
       let whole : task_words f rs own_order n ++ (time_words f v ++ (usage_words v ++ rest)) ≡ task_words f qs own_order n ++ (time_words f w ++ (usage_words w ++ rest')) =
       e ∙ ap (λ (k : ℕ). task_words f qs own_order k ++ (time_words f w ++ (usage_words w ++ rest'))) many in
       let a = parts_same (task_words f rs own_order n) (time_words f v ++ (usage_words v ++ rest)) (task_words f qs own_order n) (time_words f w ++ (usage_words w ++ rest')) (tasks_long f rs qs own_order (placed_is f ids few v own_order) (placed_is f ids few w own_order) n) whole in
@@ -358,7 +342,7 @@ module _ (f : Form) (ids : List ℕ) (few : length ids ≤ most_queues) (s t : S
       let c = parts_same (usage_words v) rest (usage_words w) rest' (usage_long v w shape) b.1 in
       let long : length (rules_words s.state) ≡ length (rules_words t.state) =
       long_if (are_linux v.rules) (are_linux w.rules) (past_tick s.state.policy.tick_ms v.clock ∷ linux_words v) (past_tick t.state.policy.tick_ms w.clock ∷ linux_words w) (ap are_linux shape.rules) (ap suc (linux_long v w shape)) in
-      let d = parts_same (rules_words s.state) (map_words s.state.maps) (rules_words t.state) (map_words t.state.maps) long c.1 in
+      let d = parts_same (rules_words s.state) (kept_words f.map_words (map_words s.state.maps)) (rules_words t.state) (kept_words f.map_words (map_words t.state.maps)) long c.1 in
       let clocks = parts_same (kept_word f.clock v.clock) (kept_word f.pushes v.queues.pushes ++ kept_word f.random v.random) (kept_word f.clock w.clock) (kept_word f.pushes w.queues.pushes ++ kept_word f.random w.random) (word_long f.clock v.clock w.clock) b.0 in
       let randoms = parts_same (kept_word f.pushes v.queues.pushes) (kept_word f.random v.random) (kept_word f.pushes w.queues.pushes) (kept_word f.random w.random) (word_long f.pushes v.queues.pushes w.queues.pushes) clocks.1 in
       record {
@@ -371,7 +355,7 @@ module _ (f : Form) (ids : List ℕ) (few : length ids ≤ most_queues) (s t : S
         random = word_tells f.random v.random w.random randoms.1;
         usages = c.0;
         rules = d.0;
-        maps = d.1;
+        maps = same_words f.map_words (map_words s.state.maps) (map_words t.state.maps) d.1;
       }
 
 -- machines of one shape that are written as the same words keep the same

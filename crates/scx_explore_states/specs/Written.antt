@@ -1,5 +1,5 @@
 -- The words of a state, as a function of the machine's state.
-use Rattle.std.specs.Prelude.{◌≡◌, ℕ, zero, suc, ◌+◌, ◌-◌, ◌*◌, ◌/◌, ◌%◌, ◌^◌, ◌<◌, ◌==◌, min, Bool, true, List, [], ◌∷◌, ◌++◌, length, take, drop, bit_or, nat_lt, Contains, slice_index, slice_index_or, All, Option, Some, None, IfSome, if◌then◌else◌}
+use Rattle.std.specs.Prelude.{◌≡◌, ℕ, zero, suc, ◌+◌, ◌-◌, ◌*◌, ◌/◌, ◌%◌, ◌^◌, ◌<◌, ◌≤◌, ◌==◌, min, Bool, true, List, [], ◌∷◌, ◌++◌, length, take, drop, bit_or, nat_lt, Contains, slice_index, slice_index_or, All, Option, Some, None, IfSome, if◌then◌else◌}
 use Rattle.scx_dsq.specs.declared.entries.Entry.{Entry}
 use Rattle.scx_isa_semantics.specs.Elements.{Maps}
 use Rattle.scx_maps.specs.Lending.{all_bytes}
@@ -15,6 +15,8 @@ use Rattle.scx_sched.specs.Sim.{SimState}
 use Rattle.scx_explore_states.specs.declared.form.Form.{Form}
 use Rattle.scx_explore_states.specs.declared.rows.Row.{Row}
 use Rattle.scx_explore_states.specs.Rows.{bit_of, entries_of, no_row, rows_of}
+use Rattle.scx_explore_states.specs.declared.map_words.MapWords.TheVariants.{Whole}
+use Rattle.scx_explore_states.specs.NotZero.{kept_words}
 use Rattle.scx_explore_states.specs.Words.{number_in}
 
 -- ---- words
@@ -171,7 +173,7 @@ abbrev pub state_words : Form → List Row → List ℕ → SimState → List �
 state_words f rows order s =
     task_words f rows order (min (length s.state.world.tasks) 8)
     ++ (time_words f s.state.world ++ (usage_words s.state.world ++ (rules_words s.state
-    ++ map_words s.state.maps)))
+    ++ kept_words f.map_words (map_words s.state.maps))))
 
 -- each task that waits does so in a queue that has a number
 abbrev pub AreKnown : List ℕ → List (Option Entry) → Type 0
@@ -185,3 +187,11 @@ pub record IsWritten (f : Form) (ids : List ℕ) (xs : List ℕ) (s : SimState) 
   pub fair : IsFair f s.state.world order
   pub known : AreKnown ids (entries_of s.state.world)
   pub words : xs ≡ began ∷ state_words f (rows_of f s.state.world ids) order s
+
+-- ---- forms of a search
+
+-- the second form is the first one with other words of maps: with all of them where the maps of
+-- that machine have at most 4,096 bytes
+pub record IsSuited (f : Form) (s : SimState) (g : Form) : Type 0 where
+  pub rest : g ≡ record f { map_words = g.map_words }
+  pub few : length (all_bytes s.state.maps) ≤ 4096 → g.map_words ≡ Whole

@@ -1,8 +1,9 @@
 ghost use Rattle.std.specs.Prelude.{◌≤◌};
+ghost use Rattle.scx_explore_states.specs.Written.{IsSuited};
 
+use crate::map_words::MapWords;
 use crate::rows::kept_tasks;
 use scx_isa::Rules;
-use scx_maps::Maps;
 use scx_sched::Sim;
 
 /// The most tasks of a machine that is searched.
@@ -33,6 +34,8 @@ pub struct Form {
     /// The weights of groups and tasks. A machine doesn't tell them: a search whose lists set weights keeps the last ones,
     /// in words after those of the state.
     pub weights: bool,
+    /// The words of maps.
+    pub map_words: MapWords,
 }
 
 impl Form {
@@ -48,7 +51,20 @@ impl Form {
         random: true,
         names: true,
         weights: true,
+        map_words: MapWords::Whole,
     };
+
+    /// The form with words of maps for states after that one of the machine. Where maps have more than 4,096 bytes, most
+    /// of them 0, only the others are kept, with room for sixteen more words for each task and CPU.
+    pub fn suited_to(self, sim: &Sim) -> Form
+        ensures { IsSuited self sim.now result }
+    {
+        let more = 16 * (usize::from(sim.tasks()) + sim.cpus() as usize);
+        Form {
+            map_words: MapWords::of(sim.maps(), more),
+            ..self
+        }
+    }
 
     /// The number of words of a state of this machine.
     pub fn width(self, sim: &Sim) -> usize {
@@ -60,7 +76,7 @@ impl Form {
             + usize::from(self.random)
             + usage_words(sim)
             + rules_words(sim)
-            + map_words(sim.maps())
+            + self.map_words.width(sim.maps())
     }
 
     /// The number of words of each task, beside half a word.
@@ -69,20 +85,6 @@ impl Form {
     {
         1 + usize::from(self.keys) + usize::from(self.vtime) + usize::from(self.run_ns)
     }
-}
-
-/// The most words that are counted for maps, more than any have.
-const MOST_MAP_WORDS: usize = 1 << 48;
-
-/// The number of words for the bytes of maps and for what maps have beside their elements.
-fn map_words(maps: &Maps) -> usize
-    ensures { result ≤ MOST_MAP_WORDS }
-{
-    let mut words = maps.bytes().len().div_ceil(8);
-    for part in 0..maps.parts() {
-        words = words.saturating_add(maps.part_words(part));
-    }
-    words.min(MOST_MAP_WORDS)
 }
 
 /// The number of words for the usages of groups.

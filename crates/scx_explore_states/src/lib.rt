@@ -6,6 +6,7 @@
 
 mod form;
 mod laws;
+mod map_words;
 mod order;
 mod queue_numbers;
 mod rows;
@@ -15,6 +16,7 @@ mod written;
 
 pub use form::{Form, MOST_TASKS};
 pub use laws::{half_words_tell, words_tell};
+pub use map_words::MapWords;
 pub use queue_numbers::QueueNumbers;
 pub use rows::MOST_CPUS;
 pub use step::{Step, Tasks};

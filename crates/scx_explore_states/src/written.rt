@@ -1,18 +1,16 @@
 ghost use Rattle.std.specs.Prelude.{ℕ, ◌≡◌, ◌+◌, ◌*◌, ◌/◌, ◌<◌, ◌≤◌, ◌∷◌, ◌++◌, [], true, length, Contains, IfSome, take, slice_index_or};
-ghost use Rattle.scx_isa_semantics.specs.Directories.{Array};
-ghost use Rattle.scx_maps.specs.Words.{part_words, parts_words};
 ghost use Rattle.scx_sched_world.specs.Helpers.{alarm_at, cpus_of};
 ghost use Rattle.scx_explore_states.specs.Rows.{entries_of};
 ghost use Rattle.scx_explore_states.specs.Words.{number_in};
-ghost use Rattle.scx_explore_states.specs.Written.{AreAlike, AreKnown, IsFair, IsWritten, alarm_words, byte_words, cpu_of_alarm, eight_at, flags_word, flags_words, home_at, joined, kept_word, linux_words, own_order, past_tick, row_in, row_words, rows_words, rules_words, spot_words, state_words, task_in, task_words, time_words, timer_words, until_due, usage_words, used_words, word_of, map_words};
+ghost use Rattle.scx_explore_states.specs.Written.{AreAlike, AreKnown, IsFair, IsWritten, alarm_words, cpu_of_alarm, flags_word, flags_words, home_at, joined, kept_word, linux_words, own_order, past_tick, row_in, row_words, rows_words, rules_words, spot_words, state_words, task_in, task_words, time_words, timer_words, until_due, usage_words, used_words};
 
 use crate::form::{Form, MOST_TASKS};
+use crate::map_words::put_maps;
 use crate::order::Order;
 use crate::queue_numbers::QueueNumbers;
 use crate::rows::{Row, kept_tasks, rows_by, rows_of};
-use crate::words::{Words, put, word_of};
+use crate::words::{Words, put};
 use scx_isa::{Field, Rules, TaskId};
-use scx_maps::Maps;
 use scx_sched::{Entry, Sim};
 use scx_sched_world::Alarm;
 use scx_vm::Env;
@@ -22,12 +20,14 @@ type TaskOrder = [u8; MOST_TASKS];
 
 impl Form {
     /// Overwrites the words with the state, and the tasks that began to run while another waits. The queues in which
-    /// tasks wait have numbers from now on. Parts without room are left out.
+    /// tasks wait have numbers from now on. If there is no room for all of them, there are no words.
     pub fn write(self, sim: &Sim, began: u64, words: &mut Words) {
         let rows = rows_of(self, sim, &mut words.numbers);
         let order = self.order_of(sim, &rows, began);
         let first = order.by_places(began);
-        self.write_words(sim, first, &rows, &order.tasks(), &mut words.words);
+        if !self.write_words(sim, first, &rows, &order.tasks(), &mut words.words) {
+            words.words.clear();
+        }
     }
 
     /// Writes the state, if queues have these numbers. Returns false if the words have no room, or a task waits in
@@ -124,7 +124,7 @@ impl Form {
         if !put_rules(sim, words) {
             return false;
         }
-        put_maps(sim.maps(), words)
+        put_maps(self.map_words, sim.maps(), words)
     }
 
     fn put_tasks(
@@ -306,44 +306,6 @@ fn put_used(sim: &Sim, groups: u32, words: &mut Vec<u64>) -> bool
     true
 }
 
-/// The bytes of all maps, and the words of their parts beside elements.
-fn put_maps(maps: &Maps, words: &mut Vec<u64>) -> bool
-    ensures { result ≡ true → words.new.items ≡ words.old.items ++ map_words maps.now }
-{
-    if !put_bytes(maps.bytes(), words) {
-        return false;
-    }
-    put_parts(maps, maps.parts(), words)
-}
-
-/// The words of the first `parts` parts of maps.
-fn put_parts(maps: &Maps, parts: usize, words: &mut Vec<u64>) -> bool
-    requires { parts ≤ length maps.now.directories }
-    ensures { result ≡ true → words.new.items
-        ≡ words.old.items ++ parts_words (take parts maps.now.directories) }
-{
-    for part in 0..parts {
-        if !put_part(maps, part, words) {
-            return false;
-        }
-    }
-    true
-}
-
-/// The words of a map's part beside its elements.
-fn put_part(maps: &Maps, part: usize, words: &mut Vec<u64>) -> bool
-    requires { part < length maps.now.directories }
-    ensures { result ≡ true → words.new.items
-        ≡ words.old.items ++ part_words (slice_index_or maps.now.directories part Array) }
-{
-    for number in 0..maps.part_words(part) {
-        if !put(words, maps.part_word(part, number)) {
-            return false;
-        }
-    }
-    true
-}
-
 /// Under Linux rules: the clock from tick to tick, the flags of each processor, and each timer.
 fn put_rules(sim: &Sim, words: &mut Vec<u64>) -> bool
     ensures { result ≡ true → words.new.items ≡ words.old.items ++ rules_words sim.now.state }
@@ -452,33 +414,6 @@ fn flags_of(sim: &Sim, cpu: u32) -> u64
     let world = sim.world();
     u64::from(world.is_free(cpu))
         + (2 * u64::from(world.is_kicked(cpu)) + 4 * u64::from(world.is_preempted(cpu)))
-}
-
-/// Eight bytes a word, the last one filled up with zeros.
-fn put_bytes(bytes: &[u8], words: &mut Vec<u64>) -> bool
-    ensures { result ≡ true → words.new.items
-        ≡ words.old.items ++ byte_words bytes.now ((length bytes.now + 7) / 8) }
-{
-    let count = (bytes.len() + 7) / 8;
-    for at in 0..count {
-        if !put(words, word_of(eight_at(bytes, at))) {
-            return false;
-        }
-    }
-    true
-}
-
-/// Eight of the bytes, or those that are left.
-#[tactic(auto, using(crate::proofs::Placed::few_are_all))]
-fn eight_at(bytes: &[u8], at: usize) -> &[u8]
-    requires { 8 * at < length bytes.now }
-    ensures { result.now ≡ eight_at bytes.now at }
-{
-    let rest = &bytes[8 * at..];
-    if rest.len() <= 8 {
-        return rest;
-    }
-    &rest[..8]
 }
 
 /// The row of the task at that place.

@@ -18,7 +18,7 @@ pub returns-clause-times : goal.returns-clause-times
 returns-clause-times c = events_dont_tell_times
 
 pub returns-clause-slices : goal.returns-clause-slices
-returns-clause-slices c = events_tell_no_idle_slices
+returns-clause-slices c s t e tells same = events_tell_no_idle_slices s t e tells same
 
 pub returns-clause-given : goal.returns-clause-given
 returns-clause-given c = such_programs_give_slices

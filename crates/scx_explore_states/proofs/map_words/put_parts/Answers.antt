@@ -1,6 +1,6 @@
 use Rattle.std.proofs.Common.{arith}
 use Rattle.scx_explore_states.proofs.Putting.{parts_more}
-use Rattle.scx_explore_states.proofs.written.put_parts.Goals as goal
+use Rattle.scx_explore_states.proofs.map_words.put_parts.Goals as goal
 
 pub loop-part-preserved : goal.loop-part-preserved
 loop-part-preserved c =

@@ -1,5 +1,5 @@
 use Rattle.scx_explore_states.proofs.Putting.{bytes_more}
-use Rattle.scx_explore_states.proofs.written.put_bytes.Goals as goal
+use Rattle.scx_explore_states.proofs.map_words.put_bytes.Goals as goal
 
 pub loop-at-preserved : goal.loop-at-preserved
 loop-at-preserved c =

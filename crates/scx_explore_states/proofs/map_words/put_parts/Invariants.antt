@@ -1,6 +1,6 @@
 use Rattle.std.proofs.Common.{◌≡◌, ◌++◌, take}
 use Rattle.scx_maps.specs.Words.{parts_words}
-use Rattle.scx_explore_states.proofs.written.put_parts.Given as goal
+use Rattle.scx_explore_states.proofs.map_words.put_parts.Given as goal
 
 -- the words of the maps so far come after those that were there
 abbrev pub invariant-loop-part : goal.invariant-loop-part

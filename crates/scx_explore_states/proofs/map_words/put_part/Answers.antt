@@ -2,7 +2,7 @@ use Rattle.std.proofs.Common.{ℕ, List, arith, slice_index_or}
 use Rattle.scx_isa_semantics.specs.Directories.{Array}
 use Rattle.scx_maps.specs.Words.{part_words}
 use Rattle.scx_explore_states.proofs.Putting.{part_all, part_more}
-use Rattle.scx_explore_states.proofs.written.put_part.Goals as goal
+use Rattle.scx_explore_states.proofs.map_words.put_part.Goals as goal
 
 pub loop-number-preserved : goal.loop-number-preserved
 loop-number-preserved c =

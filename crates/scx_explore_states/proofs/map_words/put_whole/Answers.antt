@@ -2,7 +2,7 @@ use Rattle.std.proofs.Common.{◌≡◌, take, arith}
 use Rattle.std.proofs.lemmas.List.{take_all}
 use Rattle.scx_maps.specs.Words.{parts_words}
 use Rattle.scx_explore_states.proofs.Putting.{behind}
-use Rattle.scx_explore_states.proofs.written.put_maps.Goals as goal
+use Rattle.scx_explore_states.proofs.map_words.put_whole.Goals as goal
 
 pub returns : goal.returns
 returns c is =
