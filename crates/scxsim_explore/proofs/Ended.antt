@@ -66,7 +66,7 @@ reach_is b w c n end misfit is any looked some = record {
 
 -- what is written at the end
 pub ended : {E : Type 0} (r : Result Bool E) (form : Form) (w : WorkloadState) (s : SimState) (bounds : Bounds) (starts : Starts) (d : Depths) (n : Nones) (found : List ToldList) (end : End) (a b c e : Option (List ℕ))
-    → IsEndOf bounds d.last end → d.misfit ≡ misfit_of end → n.bounds ≡ bounds → AreApart found n → IfSome n.again (IsGoneThrough form w s n)
+    → IsEndOf bounds d.last end → d.misfit ≡ misfit_of end → n.bounds ≡ bounds → AreApart starts s found n → IfSome n.again (IsGoneThrough form w s n)
     → (n.reach ≡ None → reach_of end ≡ None) → (n.reach ≡ None → IsSome n.again ⊎ CantBeLooked bounds w)
     → IfSome n.reach (λ depth. (reach_of end ≡ Some depth) ⊎ ((reach_of end ≡ None) × (depth ≡ done_of d.last)))
     → All (IsKept bounds.mode w s) found → HasLists w s found n a b → Appends b c (search_text starts bounds.mode d) → IfOk r (λ (whole : Bool). Appends c e (memory_line whole))
@@ -136,10 +136,10 @@ concluded_some (Err e) done moves n m is =
     subst (λ (x : Nones). IfSome x.reach (λ depth. (n.reach ≡ Some depth) ⊎ ((n.reach ≡ None) × (depth ≡ done)))) (sym is) (of_done done n.reach)
 
 -- sorts stay
-pub concluded_apart : {E : Type 0} (r : Result Bool E) (done : ℕ) (moves : Moves) (found : List ToldList) (n m : Nones) → m ≡ concluded r done moves n → AreApart found n → AreApart found m
-concluded_apart (Ok true) done moves found n m is h = subst (AreApart found) (sym is) (record { sorts = h.sorts; overtaken = h.overtaken })
-concluded_apart (Ok false) done moves found n m is h = subst (AreApart found) (sym is) (record { sorts = h.sorts; overtaken = h.overtaken })
-concluded_apart (Err e) done moves found n m is h = subst (AreApart found) (sym is) (record { sorts = h.sorts; overtaken = h.overtaken })
+pub concluded_apart : {E : Type 0} (r : Result Bool E) (done : ℕ) (moves : Moves) (starts : Starts) (first : SimState) (found : List ToldList) (n m : Nones) → m ≡ concluded r done moves n → AreApart starts first found n → AreApart starts first found m
+concluded_apart (Ok true) done moves starts first found n m is h = subst (AreApart starts first found) (sym is) (record { sorts = h.sorts; overtaken = h.overtaken; faults = h.faults })
+concluded_apart (Ok false) done moves starts first found n m is h = subst (AreApart starts first found) (sym is) (record { sorts = h.sorts; overtaken = h.overtaken; faults = h.faults })
+concluded_apart (Err e) done moves starts first found n m is h = subst (AreApart starts first found) (sym is) (record { sorts = h.sorts; overtaken = h.overtaken; faults = h.faults })
 
 -- and what is said of the audit is so
 pub concluded_again : {E : Type 0} (r : Result Bool E) (done : ℕ) (moves : Moves) (form : Form) (w : WorkloadState) (s : SimState) (n m : Nones) → m ≡ concluded r done moves n
@@ -155,8 +155,8 @@ pub not_looked : (form : Form) (w : WorkloadState) (s : SimState) (n m : Nones) 
 not_looked form w s n m reach is = subst (λ (x : Nones). IfSome x.again (IsGoneThrough form w s x)) (sym is) tt
 
 -- and sorts stay
-pub unlooked_apart : (found : List ToldList) (n m : Nones) (reach : Option ℕ) → m ≡ record n { again = None; reach = reach } → AreApart found n → AreApart found m
-unlooked_apart found n m reach is h = subst (AreApart found) (sym is) (record { sorts = h.sorts; overtaken = h.overtaken })
+pub unlooked_apart : (starts : Starts) (first : SimState) (found : List ToldList) (n m : Nones) (reach : Option ℕ) → m ≡ record n { again = None; reach = reach } → AreApart starts first found n → AreApart starts first found m
+unlooked_apart starts first found n m reach is h = subst (AreApart starts first found) (sym is) (record { sorts = h.sorts; overtaken = h.overtaken; faults = h.faults })
 
 -- nor is more said of lists then than the search did
 pub unlooked_some : (done : ℕ) (n m : Nones) → m ≡ record n { again = None; reach = n.reach } → IfSome m.reach (λ depth. (n.reach ≡ Some depth) ⊎ ((n.reach ≡ None) × (depth ≡ done)))

@@ -86,7 +86,7 @@ pub past_few : (l : Lists) (m : Mode) (depth : ℕ) (past : Limit) → l.mode.no
 past_few l m depth past mode deep (is, wrong) = subst (IsPastWords l) (sym is) (m, mode, depth, deep, wrong)
 
 -- a machine that is small enough
-pub is_small : (s : SimState) → length s.state.world.tasks ≤ 8 → length s.state.world.cpus ≤ 4 → length (all_bytes s.state.maps) ≤ 4096 → IsSmall s
+pub is_small : (s : SimState) → length s.state.world.tasks ≤ 8 → length s.state.world.cpus ≤ 4 → length (all_bytes s.state.maps) ≤ 1048576 → IsSmall s
 is_small s tasks cpus maps = record { tasks = tasks; cpus = cpus; maps = maps }
 
 -- a machine that is past a limit of its size

@@ -4,6 +4,7 @@ use Rattle.std.specs.Prelude.{IfOk}
 use Rattle.scx_load_workloads.specs.Workload.{WorkloadState}
 use Rattle.scx_sched.specs.Sim.{SimState}
 use Rattle.scx_explore_states.specs.declared.form.Form.{Form}
+use Rattle.scx_explore_states.specs.Written.{IsSuited}
 use Rattle.scx_explore_bounds.specs.declared.bounds.Bounds.{Bounds}
 use Rattle.scx_explore_bounds.specs.Forms.{IsFormOf}
 use Rattle.scxsim_simulation.specs.Runs.{IsRun}
@@ -21,7 +22,7 @@ started policy workload b w s form (Ok (Within begun teller v f)) run of_policy 
   record {
     run = subst (λ (x : WorkloadState). IsRun policy workload x begun.machines) (sym same) (subst (λ (x : SimState). IsRun policy workload w x) (sym machine) run);
     within = subst (λ (x : WorkloadState). IsWithin b x begun.machines) (sym same) (subst (λ (x : SimState). IsWithin b w x) (sym machine) within);
-    of_policy = subst (λ (x : Form). IsFormOf policy b x) (sym is) of_policy;
+    of_policy = record { plain = form; of_policy = of_policy; suited = subst (λ (x : SimState). IsSuited form x f) (sym machine) is };
   },
 )
 started policy workload b w s form (Err e) run of_policy begun = begun

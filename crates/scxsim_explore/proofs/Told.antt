@@ -4,7 +4,7 @@ use Rattle.std.proofs.lemmas.List.{append-nil}
 use Rattle.std.proofs.lemmas.List.Elements.{All-append, All-cons, All-nil, All-push}
 use Rattle.std.proofs.lemmas.Grind.{flat_map-append}
 use Rattle.std.proofs.KnownBytes.{Appends-nil, Appends-trans}
-use Rattle.std.specs.Prelude.{All, OnOk, IfOk, IfSome, IsErr, ◌⊎◌}
+use Rattle.std.specs.Prelude.{All, OnOk, IfOk, IfSome, IsErr}
 use Rattle.std.specs.Io.KnownBytes.{Appends}
 use Rattle.scxsim_commands.specs.declared.refusal.Fault.{Fault}
 use Rattle.scx_load_workloads.specs.Workload.{WorkloadState}
@@ -22,7 +22,7 @@ use Rattle.scxsim_explore.specs.declared.limits.Limit.{Limit}
 use Rattle.scxsim_explore.specs.declared.limits.Lists.{Lists}
 use Rattle.scxsim_explore.specs.Words.{IsBoundsOf, IsPast, limit_line}
 use Rattle.scxsim_explore.specs.Telling.{HasFile, IsShown, IsTold, IsAnswer}
-use Rattle.scxsim_explore.specs.Lists.{HasLists, HasTold}
+use Rattle.scxsim_explore.specs.Lists.{Adds, HasLists, HasTold}
 use Rattle.scxsim_explore.specs.Beginning.{IsReady}
 
 -- no list
@@ -73,11 +73,11 @@ more_so_far m w s t u v teller a b c n o p first same alike next unfailed = reco
   unfailed = unfailed ∙ first.unfailed;
 }
 
--- lists that are kept, and one more if there is one
-pub kept_more : (P : ToldList → Type 0) (old new : List ToldList) (list : Option ToldList) → All P old → IfSome list P
-    → ((new ≡ old) ⊎ ((t : ToldList) × (list ≡ Some t) × (new ≡ old ++ t ∷ []))) → All P new
-kept_more P old new list all one (inl same) = subst (All P) (sym same) all
-kept_more P old new list all one (inr (t, some, more)) = subst (All P) (sym more) (All-push P old t all (subst (λ (o : Option ToldList). IfSome o P) some one))
+-- lists that are kept, and one more if there is one and memory for it
+pub kept_more : (P : ToldList → Type 0) (old new : List ToldList) (was is : Bool) (list : Option ToldList) → All P old → IfSome list P → Adds list old was new is → All P new
+kept_more P old new was is None all one (same, whole) = subst (All P) (sym same) all
+kept_more P old new was is (Some t) all one (inl (more, whole)) = subst (All P) (sym more) (All-push P old t all one)
+kept_more P old new was is (Some t) all one (inr (same, out)) = subst (All P) (sym same) all
 
 -- no file
 pub no_file : (m : Mode) (w : WorkloadState) (s : SimState) (events : List Event) → HasFile m w s events None

@@ -4,7 +4,8 @@ use Rattle.scx_load_workloads.specs.Workload.{WorkloadState}
 use Rattle.scx_sched.specs.Sim.{SimState}
 use Rattle.scx_explore_bounds.specs.declared.bounds.Bounds.{Bounds}
 use Rattle.scx_explore_states.specs.declared.form.Form.{Form}
-use Rattle.scx_explore_bounds.specs.Forms.{IsFormOf}
+use Rattle.scx_explore_states.specs.Written.{IsSuited}
+use Rattle.scx_explore_bounds.specs.Forms.{IsFormFrom}
 use Rattle.scxsim_simulation.specs.Runs.{IsRun}
 use Rattle.scxsim_explore.specs.declared.beginning.Start.{Start}
 use Rattle.scxsim_explore.specs.declared.beginning.Start.TheVariants.{Past, Within}
@@ -18,14 +19,15 @@ pub record IsReady
   where
     pub run : IsRun policy workload w first
     pub within : IsWithin b w first
-    pub of_policy : IsFormOf policy b form
+    pub of_policy : IsFormFrom policy b first form
 
--- the search of that workload begins from that machine within the bounds, with states in that form,
--- or the machine is past that limit
+-- the search of that workload begins from that machine within the bounds, with states in that form
+-- as it suits the machine, or the machine is past that limit
 abbrev pub IsStartOf : WorkloadState → SimState → Form → Bounds → Start → Type 0
 IsStartOf w first form b (Past limit) = IsPastIn b w first limit
 IsStartOf w first form b (Within begun teller v f) =
-    (v ≡ w) × (begun.machines ≡ first) × (teller ≡ first) × (f ≡ form) × IsWithin b w first
+    (v ≡ w) × (begun.machines ≡ first) × (teller ≡ first) × IsSuited form first f
+    × IsWithin b w first
 
 -- the search of the texts begins within the bounds, and two machines are alike, or their run is
 -- past that limit

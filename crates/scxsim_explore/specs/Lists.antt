@@ -1,5 +1,5 @@
 -- Lists that are kept until they are written. No public clause cites it.
-use Rattle.std.specs.Prelude.{ℕ, List, All, Option}
+use Rattle.std.specs.Prelude.{◌≡◌, ℕ, List, [], ◌∷◌, ◌++◌, Bool, false, All, Option, Some, None, ◌⊎◌}
 use Rattle.std.specs.Io.KnownBytes.{Appends}
 use Rattle.scx_load_workloads.specs.Workload.{WorkloadState}
 use Rattle.scx_load_driver.specs.Runs.{stepped_all}
@@ -15,6 +15,12 @@ use Rattle.scxsim_explore.specs.Telling.{IsShown, lists_text}
 pub record IsKept (m : Mode) (w : WorkloadState) (s : SimState) (t : ToldList) : Type 0 where
   pub shown : IsShown m w s t
   pub alike : IsAs s (stepped_all s t.events)
+
+-- the list is added to others and the flag stays, or it is left out and the flag is false
+abbrev pub Adds : Option ToldList → List ToldList → Bool → List ToldList → Bool → Type 0
+Adds None old was new is = (new ≡ old) × (is ≡ was)
+Adds (Some t) old was new is =
+    ((new ≡ old ++ t ∷ []) × (is ≡ was)) ⊎ ((new ≡ old) × (is ≡ false))
 
 -- lists are written, each of which the machine shows
 abbrev pub HasTold : Mode → WorkloadState → SimState → Option (List ℕ) → Option (List ℕ) → Type 0

@@ -1,7 +1,9 @@
 -- The output of a search through lists of events.
-use Rattle.std.specs.Prelude.{◌≡◌, ◌≢◌, ℕ, ◌+◌, ◌-◌, ◌^◌, ◌≤◌, min, ⊤, ◌⊎◌, length, All, Bool, true, false, List, [], ◌++◌, Option, Some, None, IfSome, IsSome}
+use Rattle.std.specs.Prelude.{◌≡◌, ◌≢◌, ℕ, ◌+◌, ◌-◌, ◌^◌, ◌≤◌, min, ⊤, ◌⊎◌, length, All, Bool, true, false, ◌||◌, List, [], ◌++◌, Option, Some, None, is_none, IfSome, IsSome}
 use Rattle.std.specs.Io.KnownBytes.{Appends}
 use Rattle.scx_load_workloads.specs.Workload.{WorkloadState}
+use Rattle.scx_sched_world.specs.World.{binds}
+use Rattle.scx_sched_world.specs.declared.faults.Fault.{Fault}
 use Rattle.scx_sched_machine.specs.declared.events.Event.{Event}
 use Rattle.scx_sched.specs.Sim.{SimState}
 use Rattle.scxsim_trace.specs.Lines.{NameLists, names_of}
@@ -18,15 +20,17 @@ use Rattle.scx_explore_audit.specs.declared.table.Moves.TheVariants as moves
 use Rattle.scx_explore_audit.specs.Closed.{AreNumbersOf, Respects}
 use Rattle.scx_explore_audit.specs.Laws.{NoneIn}
 use Rattle.scx_explore_audit.specs.Whole.{NeedsNoPremise}
-use Rattle.scx_explore_workloads.specs.Files.{IsFileOf}
+use Rattle.scx_load_replay.specs.WorkloadFiles.{IsFileOf}
 use Rattle.scx_explore.specs.declared.starts.Starts.{Starts}
-use Rattle.scx_explore_bounds.specs.Forms.{IsFormOf}
+use Rattle.scx_explore_bounds.specs.Forms.{IsFormFrom}
 use Rattle.scx_explore.specs.Ends.{HasNoNew, done_of}
 use Rattle.scxsim_simulation.specs.Runs.{IsRun}
 use Rattle.scxsim_explore.specs.declared.limits.Limit.{Limit}
 use Rattle.scxsim_explore.specs.declared.limits.Lists.{Lists}
 use Rattle.scxsim_explore_lines.specs.Found.{ToldList, told_texts}
+use Rattle.scxsim_explore_lines.specs.Causes.{IsCause}
 use Rattle.scxsim_explore_lines.specs.Summary.{Depths, Nones, memory_line, search_text, summary_text}
+use Rattle.scxsim_explore_lines.specs.Sought.{is_answered}
 use Rattle.scxsim_explore.specs.Words.{IsBoundsOf, IsPast, IsWithin, limit_line}
 
 -- The text after the trace of a list, if there is one. A list of `events` has none. In the other
@@ -36,10 +40,11 @@ HasFile mode.Events w s events file = file ≡ None
 HasFile mode.Milliseconds w s events file = IfSome file (IsFileOf w s events)
 HasFile mode.Workloads w s events file = IfSome file (IsFileOf w s events)
 
--- the machine shows that the list ends in what is said to be found in it, and its file is one of
--- these, if it has one
+-- The machine shows that the list ends in what is said to be found in it. If a cause is told, that
+-- is the place at which the machine ejects the policy. Its file is one of these, if it has one.
 pub record IsShown (m : Mode) (w : WorkloadState) (s : SimState) (t : ToldList) : Type 0 where
   pub ends : Shows w.homes s t.events t.finding
+  pub cause : IfSome t.cause (IsCause s t.events)
   pub file : HasFile m w s t.events t.file
 
 -- ---- what is in none of the lists
@@ -113,10 +118,20 @@ pub record IsReach (b : Bounds) (w : WorkloadState) (d : Depths) (n : Nones) : T
 abbrev pub HasNone : List ToldList → Sort → Type 0
 HasNone found x = All (λ t. sort_of t.finding ≢ Some x) found
 
--- The summary says of no sort both that it was found and that it wasn't.
-pub record AreApart (found : List ToldList) (n : Nones) : Type 0 where
-  pub sorts : All (HasNone found) n.sorts
-  pub overtaken : n.overtaken ≡ true → HasNone found sort.Overtaken
+-- the host tracks idle CPUs: where the policy has no `update_idle`, or wants both
+abbrev pub tracks_idle : Starts → SimState → Bool
+tracks_idle starts first = is_none starts.update_idle || first.state.policy.keeps_idle
+
+-- The summary says of no sort both that it was found and that it wasn't. Where it names faults, it
+-- speaks of each fault that the lists are asked about: those that weren't found are all of them.
+pub record AreApart
+    (starts : Starts) (first : SimState) (found : List ToldList) (n : Nones) : Type 0
+  where
+    pub sorts : All (HasNone found) n.sorts
+    pub overtaken : n.overtaken ≡ true → HasNone found sort.Overtaken
+    pub faults :
+        n.all_faults ≡ true → (f : Fault)
+        → is_answered (tracks_idle starts first) (binds first.state.world) found n.sorts f ≡ true
 
 -- ---- all of it
 
@@ -149,14 +164,14 @@ pub record IsTold
     pub shown : All (IsShown b.mode w first) found
     pub others : All (IsShown b.mode w first) most
     pub bounds : nones.bounds ≡ b
-    pub apart : AreApart found nones
+    pub apart : AreApart starts first found nones
     pub reach : IsReach b w depths nones
     pub again : IfSome nones.again (IsGoneThrough form w first nones)
 
 -- The output has the summary, lists within the bounds, each with its events and its trace, and a
 -- last line if memory ran out meanwhile. The machine of the texts accepts each list, and the list
--- ends in what is said of it. States have the form that the policy's programs decide. The machine
--- is past no limit.
+-- ends in what is said of it. States have the form that the policy's programs decide, as it suits
+-- the machine, which is past no limit.
 pub record IsExplored
     (policy workload : List ℕ) (b : Bounds) (whole : Bool) (old new : Option (List ℕ)) : Type 0
   where
@@ -165,7 +180,7 @@ pub record IsExplored
     pub run : IsRun policy workload of_workload first
     pub within : IsWithin b of_workload first
     pub form : Form
-    pub of_policy : IsFormOf policy b form
+    pub of_policy : IsFormFrom policy b first form
     pub told : IsTold form of_workload first b whole old new
 
 -- the line of a limit is written that a word or the run of the texts is past

@@ -89,7 +89,7 @@ IsPastWords l limit.Changes = ⊥
 pub record IsSmall (s : SimState) : Type 0 where
   pub tasks : length s.state.world.tasks ≤ 8
   pub cpus : length s.state.world.cpus ≤ 4
-  pub maps : length (all_bytes s.state.maps) ≤ 4096
+  pub maps : length (all_bytes s.state.maps) ≤ 1048576
 
 -- the machine is past that limit of its size, and past none before it
 abbrev pub IsLarge : SimState → Limit → Type 0
@@ -97,7 +97,7 @@ IsLarge s limit.Tasks = 8 < length s.state.world.tasks
 IsLarge s limit.Cpus = (length s.state.world.tasks ≤ 8) × (4 < length s.state.world.cpus)
 IsLarge s limit.Maps =
     (length s.state.world.tasks ≤ 8) × (length s.state.world.cpus ≤ 4)
-    × (4096 < length (all_bytes s.state.maps))
+    × (1048576 < length (all_bytes s.state.maps))
 IsLarge s limit.Mode = ⊥
 IsLarge s limit.Depth = ⊥
 IsLarge s limit.Few = ⊥

@@ -3,6 +3,7 @@ ghost use Rattle.scxsim_explore_lines.specs.Found.{ToldList};
 ghost use Rattle.scxsim_explore_lines.specs.Summary.{nones_of};
 ghost use Rattle.scx_explore_bounds.specs.Events.{most_events};
 ghost use Rattle.scx_explore.specs.Ends.{done_of};
+ghost use Rattle.scx_explore.specs.declared.starts.Starts.{Starts};
 ghost use Rattle.scxsim_explore.specs.Telling.{AreApart, CantBeLooked, HasNoChanges, IsGoneThrough, IsSure, MayBeLooked, moves_of};
 ghost use Rattle.scxsim_explore.specs.Unfound.{concluded};
 
@@ -10,13 +11,11 @@ use crate::beginning::Begun;
 use scx_explore::{Bounds, Course, End, Form, Mode, Search};
 use scx_explore_audit::{Moves, Table, none_in_lists};
 use scx_explore_findings::Path;
+use scx_explore_machines::most_machines;
 use scx_load_workloads::Workload;
 use scx_sched::Sim;
 use scxsim_explore_lines::Unfound;
 use std::alloc::{AllocError, Global};
-
-/// The most machines of an audit: one for each event of a list.
-const MOST_MACHINES: usize = 8192;
 
 /// The sorts that are in none of the lists, after an audit of the states if there was one.
 #[derive(Clone, Copy)]
@@ -37,8 +36,9 @@ pub(crate) fn look_again<'a>(
     unfound: Unfound<'a>,
 ) -> Audited<'a>
     ensures bounds { result.unfound.bounds ≡ unfound.entry.bounds }
-    ensures apart { (found : List ToldList) → AreApart found (nones_of unfound.entry)
-        → AreApart found (nones_of result.unfound) }
+    ensures apart { (starts : Starts) (found : List ToldList)
+        → AreApart starts begun.now.machines found (nones_of unfound.entry)
+        → AreApart starts begun.now.machines found (nones_of result.unfound) }
     ensures again { IfSome result.unfound.again
         (IsGoneThrough form about.now begun.now.machines (nones_of result.unfound)) }
     ensures any { result.unfound.reach ≡ None → unfound.entry.reach ≡ None }
@@ -167,11 +167,12 @@ fn is_closed(
     ensures { result ≡ Ok true → IsSure form unfound.entry.bounds moves
         unfound.entry.reach unfound.entry.sorts.now begun.now.machines }
 {
-    let count = machines_of(course, begun.machines.first());
-    if unfound.sorts.is_empty() || count > MOST_MACHINES || !is_kept_whole(&begun.search, end) {
+    let first = begun.machines.first();
+    let (count, most) = (machines_of(course, first), most_machines(first));
+    if unfound.sorts.is_empty() || count > most || !is_kept_whole(&begun.search, end) {
         return Ok(false);
     }
-    let mut path = path_in(begun.machines.alloc(), begun.machines.first(), count)?;
+    let mut path = path_in(begun.machines.alloc(), first, count)?;
     let closed = is_closed_along(begun, form, about, moves, unfound, &mut path);
     drop(path);
     closed

@@ -7,6 +7,7 @@ ghost use Rattle.scxsim_explore.specs.Beginning.{IsStart, IsStartOf};
 use crate::limits::{Limit, limit_of};
 use crate::machines::Machines;
 use scx_explore::{Bounds, Form, Mode, SORTS, Search, Starts, form_of, starts_of};
+use scx_explore_machines::most_machines;
 use scx_isa::CALLBACKS;
 use scx_load_workloads::Workload;
 use scx_sched::{Event, Sim};
@@ -46,7 +47,7 @@ pub(crate) struct Begun {
     pub(crate) machines: Machines,
     /// The list at hand.
     pub(crate) events: Vec<Event>,
-    /// True unless memory ran out for a list or its workload file.
+    /// True unless memory ran out for a list, its cause or its workload file.
     pub(crate) is_whole: bool,
 }
 
@@ -137,8 +138,8 @@ fn start_of_run(alloc: Global, run: Run, setup: Setup, bounds: Bounds) -> Result
         drop(about);
         return Ok(Start::Past(limit));
     }
-    let form = setup.form;
-    match begin_both(alloc, &about, sim, setup, bounds) {
+    let form = setup.form.suited_to(&sim);
+    match begin_both(alloc, &about, sim, Setup { form, ..setup }, bounds) {
         Ok((begun, teller)) => Ok(Start::Within {
             begun,
             teller,
@@ -256,7 +257,7 @@ fn search_of(
     about: &Workload,
 ) -> Result<Search, AllocError> {
     let root = first.duplicate(alloc)?;
-    let machines = hands(bounds.depth);
+    let machines = hands(bounds.depth).min(most_machines(first));
     Search::new(alloc, form, bounds, root, machines, about, ROOM)
 }
 

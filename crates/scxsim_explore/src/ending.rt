@@ -3,7 +3,8 @@ ghost use Rattle.scxsim_output.specs.Output.{Counts};
 ghost use Rattle.scx_explore.specs.Ends.{IsEndOf};
 ghost use Rattle.scx_explore_findings.specs.Path.{IsAs};
 ghost use Rattle.scxsim_explore_lines.specs.Summary.{nones_of};
-ghost use Rattle.scxsim_explore.specs.Telling.{HasNone, IsTold};
+ghost use Rattle.scx_sched_world.specs.World.{binds};
+ghost use Rattle.scxsim_explore.specs.Telling.{HasNone, IsTold, tracks_idle};
 ghost use Rattle.scxsim_explore.specs.Lists.{HasLists, HasTold, IsKept};
 ghost use Rattle.scxsim_explore.specs.Unfound.{misfit_of, reach_of};
 
@@ -15,8 +16,10 @@ use crate::watcher::Watcher;
 use scx_explore::{Course, End, Form, Found, Mode, SORTS, Search, Sort, Starts};
 use scx_isa::{CALLBACKS, Rules};
 use scx_load_workloads::Workload;
-use scx_sched::{Fault, Sim};
-use scxsim_explore_lines::{Reached, Told, Unfound, write_memory, write_search, write_summary};
+use scx_sched::Sim;
+use scxsim_explore_lines::{
+    Reached, Told, Unfound, are_all_answered, is_sought, write_memory, write_search, write_summary,
+};
 use scxsim_output::{Failed, Out};
 
 /// Writes what was found and what wasn't, the lists of what was found, the longest wait and the most instructions of
@@ -41,12 +44,15 @@ pub(crate) fn write_end<V: Watcher, W: Out>(
     ensures failures { Counts result (W.failure_count out.old) (W.failure_count out.new) }
 {
     let mut places = SORTS;
+    let starts = begun.starts;
     let asked = asked_in(begun, course.bounds.mode);
     let count = gather_unfound(&begun.search, asked, found, &mut places);
+    let sorts = &places[..count];
     let unfound = Unfound {
         bounds: course.bounds,
         reach: reach_of(end),
-        sorts: &places[..count],
+        sorts,
+        has_all_faults: are_all_answered(asked.tracks_idle, asked.are_bound, found, sorts),
         is_overtaken: is_unfound(&begun.search, found, Sort::Overtaken),
         again: None,
     };
@@ -59,7 +65,7 @@ pub(crate) fn write_end<V: Watcher, W: Out>(
         last: course.last,
         misfit: misfit_of(end),
     };
-    write_search(begun.starts, course.bounds.mode, reached, out)?;
+    write_search(starts, course.bounds.mode, reached, out)?;
     write_memory(looked.is_whole && begun.is_whole, out)
 }
 
@@ -156,19 +162,21 @@ struct Asked {
 
 /// True if a callback may end the policy: Linux rules alone know that helper.
 fn may_exit(sim: &Sim) -> bool {
-    match sim.world().rules() {
-        Rules::Plain => false,
-        Rules::Linux => true,
-    }
+    sim.world().rules() == Rules::Linux
 }
 
 /// True if the host tracks idle CPUs: where the policy has no `update_idle`, or wants both.
-fn tracks_idle(starts: Starts, sim: &Sim) -> bool {
+fn tracks_idle(starts: Starts, sim: &Sim) -> bool
+    ensures { result ≡ tracks_idle starts sim.now }
+{
     starts.update_idle.is_none() || sim.policy().keeps_idle()
 }
 
 /// The lists that are asked for sorts in that mode.
-fn asked_in(begun: &Begun, mode: Mode) -> Asked {
+fn asked_in(begun: &Begun, mode: Mode) -> Asked
+    ensures tracks { result.tracks_idle ≡ tracks_idle begun.now.starts begun.now.machines }
+    ensures bound { result.are_bound ≡ binds begun.now.machines.state.world }
+{
     Asked {
         mode,
         may_exit: may_exit(begun.machines.first()),
@@ -184,7 +192,7 @@ fn gather_unfound(search: &Search, asked: Asked, found: &[Told], places: &mut [S
 {
     let mut count = 0;
     for sort in SORTS {
-        if is_sought(sort, asked) && is_unfound(search, found, sort) {
+        if is_asked_about(sort, asked) && is_unfound(search, found, sort) {
             count = put(places, count, sort);
         }
     }
@@ -225,11 +233,10 @@ fn put(places: &mut [Sort], count: usize, sort: Sort) -> usize
 }
 
 /// True if the lists are asked about that sort. If clocks are free, each policy has stalls.
-fn is_sought(sort: Sort, asked: Asked) -> bool {
+fn is_asked_about(sort: Sort, asked: Asked) -> bool {
     match sort {
-        Sort::Fault(Fault::IdleUntracked) => !asked.tracks_idle,
-        Sort::Fault(Fault::NotAllowed) => asked.are_bound,
-        Sort::Fault(_) | Sort::Idle => true,
+        Sort::Fault(fault) => is_sought(fault, asked.tracks_idle, asked.are_bound),
+        Sort::Idle => true,
         Sort::Stall => asked.mode != Mode::Events,
         Sort::Overtaken => false,
         Sort::Exit => asked.may_exit,

@@ -17,8 +17,8 @@ use std::alloc::Global;
 
 /// Tries all lists of events that the words name and that the machine of a policy file and of a workload file accepts,
 /// and writes what it finds. Nothing is written before the search and its audit are over. The answer is true. It is false
-/// if the words or the machine are past a limit, which is written instead, and if memory ran out for a list, a workload
-/// file or the audit, which the last line says.
+/// if the words or the machine are past a limit, which is written instead, and if memory ran out for a list, its cause, a
+/// workload file or the audit, which the last line says.
 ///
 /// # Errors
 ///

@@ -9,7 +9,7 @@ use scx_sched::Sim;
 const MOST_CPUS: u32 = 4;
 
 /// The most bytes that a policy's maps may have.
-const MOST_BYTES: usize = 4096;
+const MOST_BYTES: usize = 1_048_576;
 
 /// The most events of a list.
 const MOST_EVENTS: u32 = 64;
@@ -44,7 +44,7 @@ pub(crate) enum Limit {
     Tasks,
     /// There are more than four CPUs.
     Cpus,
-    /// Maps have more than 4,096 bytes.
+    /// Maps have more than a mebibyte.
     Maps,
     /// There are more than 64 changes of weights to try.
     Changes,

@@ -1,11 +1,10 @@
-ghost use Rattle.std.specs.Prelude.{◌≡◌, ◌⊎◌, ◌∷◌, ◌++◌, [], All, Some, false, None, IfSome, IfOk, IsOk, IsErr, OnOk, option_map, string_bytes};
+ghost use Rattle.std.specs.Prelude.{◌≡◌, All, false, None, IfSome, IfOk, IsOk, IsErr, OnOk, option_map, string_bytes};
 ghost use Rattle.scx_explore.specs.Ends.{IsEndOf};
 ghost use Rattle.scx_explore_findings.specs.Path.{IsAs};
-ghost use Rattle.scx_explore_workloads.specs.Files.{IsFileOf};
+ghost use Rattle.scx_load_replay.specs.WorkloadFiles.{IsFileOf};
 ghost use Rattle.scxsim_output.specs.Output.{Counts};
-ghost use Rattle.scxsim_explore_lines.specs.Found.{ToldList};
 ghost use Rattle.scxsim_explore.specs.Telling.{HasFile, IsTold};
-ghost use Rattle.scxsim_explore.specs.Lists.{IsKept};
+ghost use Rattle.scxsim_explore.specs.Lists.{Adds, IsKept};
 
 use crate::beginning::Begun;
 use crate::ending::write_end;
@@ -13,10 +12,10 @@ use crate::machines::Machines;
 use crate::showing::is_shown;
 use crate::watcher::Watcher;
 use scx_explore::{Bounds, Course, End, Form, Found, Mode, SORTS, Search};
-use scx_explore_workloads::workload_file;
+use scx_load_replay::workload_file;
 use scx_load_workloads::Workload;
 use scx_sched::{Event, Sim};
-use scxsim_explore_lines::Told;
+use scxsim_explore_lines::{Told, cause_of};
 use scxsim_output::{Failed, Out};
 use std::alloc::{AllocError, Global};
 
@@ -89,8 +88,7 @@ fn gather_found(begun: &mut Begun, about: &Workload, mode: Mode) -> Vec<Told>
 
 /// Adds the list, if there is one. If there is no memory for it, `are_whole` becomes false.
 fn add(lists: &mut Vec<Told>, list: Option<Told>, are_whole: &mut bool)
-    ensures { lists.new.items ≡ lists.old.items
-        ⊎ ((t : ToldList) × (list ≡ Some t) × (lists.new.items ≡ lists.old.items ++ t ∷ [])) }
+    ensures { Adds list lists.old.items are_whole.old lists.new.items are_whole.new }
 {
     let Some(list) = list else {
         return;
@@ -123,38 +121,30 @@ pub(crate) fn list_of(
     if !is_shown(&mut begun.machines, about, events, found.finding) {
         return None;
     }
-    let Some(copy) = copied(begun.machines.alloc(), events) else {
-        begun.is_whole = false;
-        return None;
-    };
+    let finding = found.finding;
+    let alloc = begun.machines.alloc();
+    let found_cause = cause_of(alloc, begun.machines.first(), about, finding, events);
+    let cause = text_or_none(found_cause, &mut begun.is_whole);
     let found_file = file_in(mode, &mut begun.machines, about, events);
-    let file = file_or_none(found_file, &mut begun.is_whole);
-    Some(Told::new(found.finding, copy, file))
-}
-
-/// A copy of the events, if there is memory for it.
-fn copied(alloc: Global, events: &[Event]) -> Option<Vec<Event>>
-    ensures { IfSome result (λ copy. copy.items ≡ events.now) }
-{
-    let mut copy = Vec::new(alloc);
-    match copy.extend_from_slice(events) {
-        Ok(()) => Some(copy),
+    let file = text_or_none(found_file, &mut begun.is_whole);
+    match Told::new(alloc, finding, events, cause, file) {
+        Ok(told) => Some(told),
         Err(AllocError) => {
-            drop(copy);
+            begun.is_whole = false;
             None
         }
     }
 }
 
-/// Returns the file if there is one. If memory ran out for it, `is_whole` becomes false.
-fn file_or_none(file: Result<Option<String>, AllocError>, is_whole: &mut bool) -> Option<String>
-    ensures found { IfOk file (λ found. result ≡ found) }
-    ensures none { IsErr file → result ≡ None }
-    ensures whole { IsOk file → is_whole.new ≡ is_whole.old }
-    ensures memory { IsErr file → is_whole.new ≡ false }
+/// Returns the text if there is one. If memory ran out for it, `is_whole` becomes false.
+fn text_or_none(text: Result<Option<String>, AllocError>, is_whole: &mut bool) -> Option<String>
+    ensures found { IfOk text (λ found. result ≡ found) }
+    ensures none { IsErr text → result ≡ None }
+    ensures whole { IsOk text → is_whole.new ≡ is_whole.old }
+    ensures memory { IsErr text → is_whole.new ≡ false }
 {
-    match file {
-        Ok(file) => file,
+    match text {
+        Ok(text) => text,
         Err(AllocError) => {
             *is_whole = false;
             None

@@ -1,3 +1,5 @@
 mod Rest
+mod Places
 mod Clocks
+mod Each
 pub mod Written

@@ -75,11 +75,11 @@ length_in mode.Events es = length es
 length_in mode.Milliseconds es = ms_begun es true
 length_in mode.Workloads es = ms_begun es true
 
--- the unit of a length, and the end of its line
+-- the unit of a length, after its number
 abbrev pub unit : Mode → ℕ → List ℕ
-unit mode.Events n = if nat_eq n 1 then codes " event\n" else codes " events\n"
-unit mode.Milliseconds n = codes " ms\n"
-unit mode.Workloads n = codes " ms\n"
+unit mode.Events n = if nat_eq n 1 then codes " event" else codes " events"
+unit mode.Milliseconds n = codes " ms"
+unit mode.Workloads n = codes " ms"
 
 -- the words before what was found, at the head of a list
 abbrev pub head_word : Finding → List ℕ
@@ -92,20 +92,21 @@ head_word (Waits t ms) = codes ""
 head_word (Takes b n) = codes ""
 
 -- what was found in a list of that length
-abbrev pub length_line : NameLists → Finding → Mode → ℕ → List ℕ
-length_line x f m depth = finding_words x f ++ (codes " after " ++ decimal depth ++ unit m depth)
+abbrev pub length_words : NameLists → Finding → Mode → ℕ → List ℕ
+length_words x f m depth = finding_words x f ++ (codes " after " ++ decimal depth ++ unit m depth)
 
 -- the line at the head of such a list
 abbrev pub found_line : NameLists → Finding → Mode → ℕ → List ℕ
-found_line x f m depth = head_word f ++ length_line x f m depth
+found_line x f m depth = head_word f ++ length_words x f m depth ++ codes "\n"
 
 -- ---- the list
 
--- A list of events, what is said to be found in it, and the workload file after its trace, if there
--- is one.
+-- A list of events, what is said to be found in it, the words of its cause, if they are told, and
+-- the workload file after its trace, if there is one.
 pub record ToldList : Type 0 where
   pub finding : Finding
   pub events : List Event
+  pub cause : Option (List ℕ)
   pub file : Option (List ℕ)
 
 -- the line of a group's new weight

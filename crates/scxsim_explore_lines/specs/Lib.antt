@@ -1,2 +1,4 @@
 pub mod Found
+pub mod Causes
 pub mod Summary
+pub mod Sought

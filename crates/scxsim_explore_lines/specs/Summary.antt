@@ -1,11 +1,12 @@
 -- The lines of a search: what was found and what is in none of the lists, instructions before any
 -- event, and how far the search came.
-use Rattle.std.specs.Prelude.{ℕ, List, [], ◌++◌, Bool, true, false, Option, Some, None, codes, decimal, flat_map}
+use Rattle.std.specs.Prelude.{ℕ, List, [], ◌++◌, Bool, true, false, ◌&&◌, ◌||◌, ◌==◌, if◌then◌else◌, Option, Some, None, codes, decimal, flat_map}
+use Rattle.std.specs.List.{list_any}
 use Rattle.scx_isa_semantics.specs.declared.callbacks.Callback.{Callback}
 use Rattle.scx_isa_semantics.specs.declared.callbacks.Callback.TheVariants.{Init, Enable, SetWeight, UpdateIdle}
-use Rattle.scx_sched_world.specs.Faults.{fault_number}
 use Rattle.scx_explore_findings.specs.declared.finding.Sort.{Sort}
 use Rattle.scx_explore_findings.specs.declared.finding.Sort.TheVariants as sort
+use Rattle.scx_explore_findings.specs.Findings.{sort_number, sort_of}
 use Rattle.scx_explore_bounds.specs.declared.bounds.Bounds.{Bounds}
 use Rattle.scx_explore_bounds.specs.declared.bounds.Mode.{Mode}
 use Rattle.scx_explore_bounds.specs.declared.bounds.Mode.TheVariants as mode
@@ -13,10 +14,11 @@ use Rattle.scx_explore_audit.specs.declared.table.Moves.{Moves}
 use Rattle.scx_explore_audit.specs.declared.table.Moves.TheVariants as moves
 use Rattle.scx_explore.specs.declared.progress.Level.{Level}
 use Rattle.scx_explore.specs.declared.starts.Starts.{Starts}
+use Rattle.scxsim_explore_lines.specs.declared.nones.Named.{Named}
 use Rattle.scxsim_explore_lines.specs.declared.summary.Reached.{Reached}
 use Rattle.scxsim_explore_lines.specs.declared.summary.Unfound.{Unfound}
 use Rattle.scxsim_trace.specs.Lines.{NameLists}
-use Rattle.scxsim_explore_lines.specs.Found.{ToldList, length_in, length_line, most_words}
+use Rattle.scxsim_explore_lines.specs.Found.{ToldList, length_in, length_words, most_words}
 
 -- ---- before any event
 
@@ -102,25 +104,77 @@ depth_lines m d =
     alike_line d.alike ++ (flat_map (kept_line m) d.levels ++ kept_line m d.last)
     ++ misfit_line m d.misfit
 
+-- ---- sorts by name
+
+-- a fault
+abbrev pub is_fault : Sort → Bool
+is_fault (sort.Fault f) = true
+is_fault sort.Stall = false
+is_fault sort.Idle = false
+is_fault sort.Overtaken = false
+is_fault sort.Exit = false
+
+-- what was found is of that sort
+abbrev pub is_of : Option Sort → Sort → Bool
+is_of None x = false
+is_of (Some y) x = sort_number y == sort_number x
+
+-- what was found is a fault
+abbrev pub is_of_fault : Option Sort → Bool
+is_of_fault None = false
+is_of_fault (Some x) = is_fault x
+
+-- the sort is one of these
+abbrev pub has_sort : List Sort → Sort → Bool
+has_sort sorts x = list_any (λ y. sort_number y == sort_number x) sorts
+
+-- one of the lists ends in something of that sort
+abbrev pub has_found : List ToldList → Sort → Bool
+has_found found x = list_any (λ (t : ToldList). is_of (sort_of t.finding) x) found
+
+-- one of the lists ends in a fault
+abbrev pub has_found_fault : List ToldList → Bool
+has_found_fault found = list_any (λ (t : ToldList). is_of_fault (sort_of t.finding)) found
+
 -- ---- what is in none of the lists
 
--- a sort
-abbrev pub sort_words : Sort → List ℕ
-sort_words (sort.Fault f) = codes "fault " ++ decimal (fault_number f) ++ codes ""
-sort_words sort.Stall = codes "stall"
-sort_words sort.Idle = codes "idle"
-sort_words sort.Overtaken = codes "overtaken"
-sort_words sort.Exit = codes "exit"
+-- the name of faults: all of them, or those that weren't found
+abbrev pub fault_name : Bool → List ℕ
+fault_name false = codes "fault"
+fault_name true = codes "other fault"
 
--- the words before a depth up to which there is none
+-- the text before a name, with a name before it or none, and with one after it or none
+abbrev pub joint : Bool → Bool → List ℕ
+joint false after = codes "no "
+joint true true = codes ", "
+joint true false = codes " or "
+
+-- a name, if it is said
+abbrev pub name_words : Bool → List ℕ → List ℕ → List ℕ
+name_words false before name = []
+name_words true before name = before ++ name
+
+-- the names of faults and stalls, for which the host ejects the policy
+abbrev pub first_names : Named → List ℕ
+first_names n =
+    name_words n.faults (codes "no ") (fault_name n.are_others)
+    ++ name_words n.stalls (joint n.faults (n.exits || n.idles)) (codes "stall")
+
+-- the names of the others
+abbrev pub last_names : Named → List ℕ
+last_names n =
+    name_words n.exits (joint (n.faults || n.stalls) n.idles) (codes "exit")
+    ++ name_words n.idles (joint (n.faults || (n.stalls || n.exits)) false) (codes "idle CPU")
+
+-- the words before a depth
 abbrev pub up_to : Mode → List ℕ
-up_to mode.Events = codes " none up to depth "
-up_to mode.Milliseconds = codes " none up to "
-up_to mode.Workloads = codes " none up to "
+up_to mode.Events = codes " up to depth "
+up_to mode.Milliseconds = codes " up to "
+up_to mode.Workloads = codes " up to "
 
 -- lists of any length, or up to that many events or milliseconds
 abbrev pub reach_words : Mode → Option ℕ → List ℕ
-reach_words m None = codes " none in any list"
+reach_words m None = codes " in any list"
 reach_words m (Some depth) = up_to m ++ decimal depth ++ depth_unit m
 
 -- how many wakes and sleeps a list has at most, if that is bounded, and the line's end
@@ -128,18 +182,26 @@ abbrev pub few_words : Option ℕ → List ℕ
 few_words None = codes "\n"
 few_words (Some few) = codes " with " ++ decimal few ++ codes " wakes and sleeps\n"
 
--- the sort is in none of these lists
-abbrev pub none_line : Bounds → Option ℕ → Sort → List ℕ
-none_line b reach x = sort_words x ++ reach_words b.mode reach ++ few_words b.few
+-- these lists
+abbrev pub lists_words : Bounds → Option ℕ → List ℕ
+lists_words b reach = reach_words b.mode reach ++ few_words b.few
 
--- a line for each sort
-abbrev pub none_lines : Bounds → Option ℕ → List Sort → List ℕ
-none_lines b reach sorts = flat_map (none_line b reach) sorts
+-- these sorts are in none of the lists
+abbrev pub named_line : Bounds → Option ℕ → Named → List ℕ
+named_line b reach n = first_names n ++ last_names n ++ lists_words b reach
+
+-- the line names a sort
+abbrev pub has_name : Named → Bool
+has_name n = (n.faults || n.stalls) || (n.exits || n.idles)
+
+-- the line of these sorts, if there is one
+abbrev pub sorts_line : Bounds → Option ℕ → Named → List ℕ
+sorts_line b reach n = if has_name n then named_line b reach n else []
 
 -- the line of overtaken tasks, if it is told
 abbrev pub overtaken_line : Bounds → Option ℕ → Bool → List ℕ
 overtaken_line b reach false = []
-overtaken_line b reach true = none_line b reach sort.Overtaken
+overtaken_line b reach true = codes "no overtaken task" ++ lists_words b reach
 
 -- the states were audited, by such moves
 abbrev pub again_line : Option Moves → List ℕ
@@ -148,12 +210,14 @@ again_line (Some moves.Events) = codes "audited: faults, idle CPUs\n"
 again_line (Some moves.Milliseconds) = codes "audited: faults, stalls, idle CPUs\n"
 
 -- The sorts of findings that no list within these bounds shows: the most events or milliseconds of
--- a list, if that is bounded; the sorts, whether overtaken tasks are one of them, and the moves by
--- which the states were audited, if they were.
+-- a list, if that is bounded; the sorts, whether those of faults may be named as all that weren't
+-- found, whether overtaken tasks are one of them, and the moves by which the states were audited,
+-- if they were.
 pub record Nones : Type 0 where
   pub bounds : Bounds
   pub reach : Option ℕ
   pub sorts : List Sort
+  pub all_faults : Bool
   pub overtaken : Bool
   pub again : Option Moves
 
@@ -163,21 +227,38 @@ nones_of u = record {
   bounds = u.bounds;
   reach = u.reach;
   sorts = u.sorts.now;
+  all_faults = u.has_all_faults;
   overtaken = u.is_overtaken;
   again = u.again;
 }
 
--- the lines that say it
-abbrev pub nones_text : Nones → List ℕ
-nones_text n =
-    none_lines n.bounds n.reach n.sorts
+-- the names of those sorts, after what was found
+abbrev pub named_of : List ToldList → Nones → Named
+named_of found n = record {
+  are_others = has_found_fault found;
+  faults = n.all_faults && list_any is_fault n.sorts;
+  stalls = has_sort n.sorts sort.Stall;
+  exits = has_sort n.sorts sort.Exit;
+  idles = has_sort n.sorts sort.Idle;
+}
+
+-- the lines that say it, three at most
+abbrev pub nones_text : List ToldList → Nones → List ℕ
+nones_text found n =
+    sorts_line n.bounds n.reach (named_of found n)
     ++ overtaken_line n.bounds n.reach n.overtaken ++ again_line n.again
 
 -- ---- the summary and the end
 
+-- the end of the line of a list: the words of the cause, if they are told
+abbrev pub cause_end : Option (List ℕ) → List ℕ
+cause_end None = codes "\n"
+cause_end (Some words) = codes ": " ++ words ++ codes "\n"
+
 -- what was found in a list, with the list's length
 abbrev pub answer_line : NameLists → Mode → ToldList → List ℕ
-answer_line x m t = codes "found: " ++ length_line x t.finding m (length_in m t.events)
+answer_line x m t =
+    codes "found: " ++ length_words x t.finding m (length_in m t.events) ++ cause_end t.cause
 
 -- a line for each list
 abbrev pub answer_lines : NameLists → Mode → List ToldList → List ℕ
@@ -185,7 +266,7 @@ answer_lines x m lists = flat_map (answer_line x m) lists
 
 -- the first lines: what was found, what is in none of the lists, and an empty line
 abbrev pub summary_text : NameLists → List ToldList → Nones → List ℕ
-summary_text x found n = answer_lines x n.bounds.mode found ++ nones_text n ++ codes "\n"
+summary_text x found n = answer_lines x n.bounds.mode found ++ nones_text found n ++ codes "\n"
 
 -- the last lines: what callbacks take before any event, and how far the search came
 abbrev pub search_text : Starts → Mode → Depths → List ℕ

@@ -3,7 +3,7 @@ ghost use Rattle.std.specs.Io.KnownBytes.{Appends};
 ghost use Rattle.scxsim_output.specs.Output.{Counts};
 ghost use Rattle.scx_load_driver.specs.Runs.{notes_of_all, stepped_all};
 ghost use Rattle.scxsim_trace.specs.Lines.{names_of, note_lines};
-ghost use Rattle.scxsim_explore_lines.specs.Found.{event_line, event_lines, file_text, finding_words, found_line, head_word, idle_words, length_in, length_line, list_text, most_words, overtaken_words, own_weight_line, told_text, unit, wait_words, weight_line, workload_text};
+ghost use Rattle.scxsim_explore_lines.specs.Found.{event_line, event_lines, file_text, finding_words, found_line, head_word, idle_words, length_in, length_words, list_text, most_words, overtaken_words, own_weight_line, told_text, unit, wait_words, weight_line, workload_text};
 
 use crate::lengths::length_in;
 use crate::listed::Listed;
@@ -66,7 +66,8 @@ fn write_found<W: Out>(
     ensures failures { Counts result (W.failure_count out.old) (W.failure_count out.new) }
 {
     write_text(out, head_word(finding))?;
-    write_length(about, finding, mode, events, out)
+    write_length(about, finding, mode, events, out)?;
+    write_text(out, "\n")
 }
 
 /// The words before what was found, at the head of a list.
@@ -92,7 +93,7 @@ pub(crate) fn write_length<W: Out>(
     out: &mut W,
 ) -> Result<(), Failed>
     ensures ok { OnOk result (Appends (W.contents out.old) (W.contents out.new)
-        (length_line (names_of about.now) finding mode (length_in mode events.now))) }
+        (length_words (names_of about.now) finding mode (length_in mode events.now))) }
     ensures failures { Counts result (W.failure_count out.old) (W.failure_count out.new) }
 {
     write_finding(about, finding, out)?;
@@ -100,14 +101,14 @@ pub(crate) fn write_length<W: Out>(
     write_number(out, " after ", length as u64, unit(mode, length))
 }
 
-/// The unit of a length, and the end of its line.
+/// The unit of a length, after its number.
 fn unit(mode: Mode, length: usize) -> &'static str
     ensures { result.now ≡ unit mode length }
 {
     match mode {
-        Mode::Events if length == 1 => " event\n",
-        Mode::Events => " events\n",
-        Mode::Milliseconds | Mode::Workloads => " ms\n",
+        Mode::Events if length == 1 => " event",
+        Mode::Events => " events",
+        Mode::Milliseconds | Mode::Workloads => " ms",
     }
 }
 

@@ -15,7 +15,7 @@ pub(crate) fn length_in(mode: Mode, events: &[Event]) -> usize
 }
 
 /// The milliseconds that a list begins. The first event and each event after a clock begin one.
-fn ms_begun(events: &[Event]) -> usize
+pub(crate) fn ms_begun(events: &[Event]) -> usize
     ensures { result ≡ ms_begun events.now true }
 {
     let mut count = 0;

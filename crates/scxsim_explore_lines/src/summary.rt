@@ -1,17 +1,18 @@
-ghost use Rattle.std.specs.Prelude.{◌≡◌, ◌++◌, IfOk, OnOk, Some, flat_map};
+ghost use Rattle.std.specs.Prelude.{◌≡◌, ◌++◌, IfOk, OnOk, Some, flat_map, option_map};
 ghost use Rattle.std.specs.Io.KnownBytes.{Appends};
 ghost use Rattle.scxsim_output.specs.Output.{Counts};
 ghost use Rattle.scxsim_trace.specs.Lines.{names_of};
-ghost use Rattle.scxsim_explore_lines.specs.Summary.{again_line, alike_line, answer_line, answer_lines, depth_lines, depth_unit, depths_of, few_words, kept_line, level_line, memory_line, misfit_end, misfit_line, none_line, none_lines, nones_of, nones_text, overtaken_line, reach_words, run_line, search_text, sort_words, start_line, start_lines, summary_text, task_start_lines, tried_words, up_to};
+ghost use Rattle.scxsim_explore_lines.specs.Summary.{alike_line, answer_line, answer_lines, cause_end, depth_lines, depth_unit, depths_of, kept_line, level_line, memory_line, misfit_end, misfit_line, nones_of, run_line, search_text, start_line, start_lines, summary_text, task_start_lines, tried_words};
 
 use crate::found::{write_length, write_most};
+use crate::nones::write_nones;
 use crate::pieces::{write_number, write_text};
 use crate::told::Told;
 use scx_explore::{Bounds, Level, Mode, Sort, Starts};
 use scx_explore_audit::Moves;
 use scx_isa::Callback;
 use scx_load_workloads::Workload;
-use scxsim_output::{Failed, Out};
+use scxsim_output::{Failed, Out, write_named};
 
 /// The depths that a search reached.
 #[derive(Clone, Copy)]
@@ -35,6 +36,8 @@ pub struct Unfound<'a> {
     pub reach: Option<usize>,
     /// The sorts, without overtaken tasks.
     pub sorts: &'a [Sort],
+    /// True if each fault that the lists are asked about is one of the sorts or was found.
+    pub has_all_faults: bool,
     /// True if overtaken tasks are one of them.
     pub is_overtaken: bool,
     /// The moves that an audit of the states tried, if there was one.
@@ -53,7 +56,7 @@ pub fn write_summary<W: Out>(
     ensures failures { Counts result (W.failure_count out.old) (W.failure_count out.new) }
 {
     write_answers(about, unfound.bounds.mode, found, out)?;
-    write_nones(unfound, out)?;
+    write_nones(found, unfound, out)?;
     write_text(out, "\n")
 }
 
@@ -74,7 +77,7 @@ fn write_answers<W: Out>(
     Ok(())
 }
 
-/// Writes a line `found: idle cpu 1 while c waits after 5 events`.
+/// Writes a line `found: idle cpu 1 while c waits after 5 events`, for a fault or an exit with its cause.
 fn write_answer<W: Out>(
     about: &Workload,
     mode: Mode,
@@ -86,7 +89,20 @@ fn write_answer<W: Out>(
     ensures failures { Counts result (W.failure_count out.old) (W.failure_count out.new) }
 {
     write_text(out, "found: ")?;
-    write_length(about, told.finding(), mode, told.events(), out)
+    write_length(about, told.finding(), mode, told.events(), out)?;
+    write_cause_end(told.cause(), out)
+}
+
+/// Writes the end of a list's line: the words of the cause, if they are told.
+fn write_cause_end<W: Out>(cause: Option<&str>, out: &mut W) -> Result<(), Failed>
+    ensures ok { OnOk result (Appends (W.contents out.old) (W.contents out.new)
+        (cause_end (option_map (λ text. text.now) cause.entry))) }
+    ensures failures { Counts result (W.failure_count out.old) (W.failure_count out.new) }
+{
+    match cause {
+        Some(words) => write_named(out, ": ", words, "\n"),
+        None => write_text(out, "\n"),
+    }
 }
 
 /// Writes the last lines: instructions before any event, and how far the search came.
@@ -243,7 +259,7 @@ fn write_tried_again<W: Out>(events: u64, again: u64, out: &mut W) -> Result<(),
 }
 
 /// The unit of a depth, after its number.
-fn depth_unit(mode: Mode) -> &'static str
+pub(crate) fn depth_unit(mode: Mode) -> &'static str
     ensures { result.now ≡ depth_unit mode }
 {
     match mode {
@@ -271,116 +287,6 @@ fn misfit_end(mode: Mode) -> &'static str
     match mode {
         Mode::Events => " does not fit\n",
         Mode::Milliseconds | Mode::Workloads => " ms does not fit\n",
-    }
-}
-
-/// Writes a line for each sort, and whether the states were audited.
-fn write_nones<W: Out>(unfound: Unfound<'_>, out: &mut W) -> Result<(), Failed>
-    ensures ok { OnOk result (Appends (W.contents out.old) (W.contents out.new)
-        (nones_text (nones_of unfound.entry))) }
-    ensures failures { Counts result (W.failure_count out.old) (W.failure_count out.new) }
-{
-    write_sorts(unfound.bounds, unfound.reach, unfound.sorts, out)?;
-    write_overtaken(unfound, out)?;
-    write_text(out, again_text(unfound.again))
-}
-
-/// The line on an audit of the states, if there was one.
-fn again_text(again: Option<Moves>) -> &'static str
-    ensures { result.now ≡ again_line again }
-{
-    match again {
-        Some(Moves::Events) => "audited: faults, idle CPUs\n",
-        Some(Moves::Milliseconds) => "audited: faults, stalls, idle CPUs\n",
-        None => "",
-    }
-}
-
-fn write_sorts<W: Out>(
-    bounds: Bounds,
-    reach: Option<usize>,
-    sorts: &[Sort],
-    out: &mut W,
-) -> Result<(), Failed>
-    ensures ok { OnOk result (Appends (W.contents out.old) (W.contents out.new)
-        (none_lines bounds reach sorts.now)) }
-    ensures failures { Counts result (W.failure_count out.old) (W.failure_count out.new) }
-{
-    for sort in sorts {
-        write_none(bounds, reach, *sort, out)?;
-    }
-    Ok(())
-}
-
-fn write_overtaken<W: Out>(unfound: Unfound<'_>, out: &mut W) -> Result<(), Failed>
-    ensures ok { OnOk result (Appends (W.contents out.old) (W.contents out.new)
-        (overtaken_line unfound.entry.bounds unfound.entry.reach unfound.entry.is_overtaken)) }
-    ensures failures { Counts result (W.failure_count out.old) (W.failure_count out.new) }
-{
-    if unfound.is_overtaken {
-        write_none(unfound.bounds, unfound.reach, Sort::Overtaken, out)
-    } else {
-        write_text(out, "")
-    }
-}
-
-/// Writes that a sort is in none of these lists: in none of any length, or in none up to a depth.
-fn write_none<W: Out>(
-    bounds: Bounds,
-    reach: Option<usize>,
-    sort: Sort,
-    out: &mut W,
-) -> Result<(), Failed>
-    ensures ok { OnOk result (Appends (W.contents out.old) (W.contents out.new)
-        (none_line bounds reach sort)) }
-    ensures failures { Counts result (W.failure_count out.old) (W.failure_count out.new) }
-{
-    write_sort(sort, out)?;
-    write_reach(bounds.mode, reach, out)?;
-    write_few(bounds.few, out)
-}
-
-fn write_sort<W: Out>(sort: Sort, out: &mut W) -> Result<(), Failed>
-    ensures ok { OnOk result (Appends (W.contents out.old) (W.contents out.new) (sort_words sort)) }
-    ensures failures { Counts result (W.failure_count out.old) (W.failure_count out.new) }
-{
-    match sort {
-        Sort::Fault(fault) => write_number(out, "fault ", u64::from(fault.number()), ""),
-        Sort::Stall => write_text(out, "stall"),
-        Sort::Idle => write_text(out, "idle"),
-        Sort::Overtaken => write_text(out, "overtaken"),
-        Sort::Exit => write_text(out, "exit"),
-    }
-}
-
-fn write_reach<W: Out>(mode: Mode, reach: Option<usize>, out: &mut W) -> Result<(), Failed>
-    ensures ok { OnOk result (Appends (W.contents out.old) (W.contents out.new)
-        (reach_words mode reach)) }
-    ensures failures { Counts result (W.failure_count out.old) (W.failure_count out.new) }
-{
-    match reach {
-        Some(depth) => write_number(out, up_to(mode), depth as u64, depth_unit(mode)),
-        None => write_text(out, " none in any list"),
-    }
-}
-
-/// The words before a depth up to which there is none.
-fn up_to(mode: Mode) -> &'static str
-    ensures { result.now ≡ up_to mode }
-{
-    match mode {
-        Mode::Events => " none up to depth ",
-        Mode::Milliseconds | Mode::Workloads => " none up to ",
-    }
-}
-
-fn write_few<W: Out>(few: Option<u8>, out: &mut W) -> Result<(), Failed>
-    ensures ok { OnOk result (Appends (W.contents out.old) (W.contents out.new) (few_words few)) }
-    ensures failures { Counts result (W.failure_count out.old) (W.failure_count out.new) }
-{
-    match few {
-        Some(few) => write_number(out, " with ", u64::from(few), " wakes and sleeps\n"),
-        None => write_text(out, "\n"),
     }
 }
 

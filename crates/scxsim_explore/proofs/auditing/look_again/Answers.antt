@@ -8,7 +8,7 @@ pub returns-in_default-clause-bounds : goal.returns-in_default-clause-bounds
 returns-in_default-clause-bounds c = ap (λ (x : Nones). x.bounds) c.unlooked.ensures
 
 pub returns-in_default-clause-apart : goal.returns-in_default-clause-apart
-returns-in_default-clause-apart c = λ found h. unlooked_apart found (nones_of c.args.unfound) (nones_of c.unlooked.result) c.args.unfound.reach c.unlooked.ensures h
+returns-in_default-clause-apart c = λ starts found h. unlooked_apart starts c.args.begun.now.machines found (nones_of c.args.unfound) (nones_of c.unlooked.result) c.args.unfound.reach c.unlooked.ensures h
 
 pub returns-in_default-clause-again : goal.returns-in_default-clause-again
 returns-in_default-clause-again c =
@@ -28,7 +28,7 @@ pub returns-clause-bounds : goal.returns-clause-bounds
 returns-clause-bounds c = concluded_bounds c.is_closed-closed.result _ c.in-Some.moves (nones_of c.args.unfound) (nones_of c.concluded.result.unfound) c.concluded.ensures.nones
 
 pub returns-clause-apart : goal.returns-clause-apart
-returns-clause-apart c = λ found h. concluded_apart c.is_closed-closed.result _ c.in-Some.moves found (nones_of c.args.unfound) (nones_of c.concluded.result.unfound) c.concluded.ensures.nones h
+returns-clause-apart c = λ starts found h. concluded_apart c.is_closed-closed.result _ c.in-Some.moves starts c.args.begun.now.machines found (nones_of c.args.unfound) (nones_of c.concluded.result.unfound) c.concluded.ensures.nones h
 
 pub returns-clause-again : goal.returns-clause-again
 returns-clause-again c =

@@ -18,5 +18,5 @@ loop-place-preserved c =
     let one = subst (λ (s : SimState). IfSome c.list_of-list.result (IsKept c.args.mode c.args.about.now s)) c.loop-place.invariant.same c.list_of-list.ensures.kept in
     record {
       same = c.list_of-list.ensures.same ∙ c.loop-place.invariant.same;
-      kept = kept_more P _ _ c.list_of-list.result c.loop-place.invariant.kept one c.add.ensures;
+      kept = kept_more P _ _ _ _ c.list_of-list.result c.loop-place.invariant.kept one c.add.ensures;
     }

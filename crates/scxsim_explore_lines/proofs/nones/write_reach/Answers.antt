@@ -1,4 +1,4 @@
-use Rattle.scxsim_explore_lines.proofs.summary.write_reach.Goals as goal
+use Rattle.scxsim_explore_lines.proofs.nones.write_reach.Goals as goal
 
 pub returns-in-Some-clause-ok : goal.returns-in-Some-clause-ok
 returns-in-Some-clause-ok g c =
