@@ -1,7 +1,6 @@
 use crate::named_text::NamedText;
 use scx_asm::AsmFault;
-use scx_load_files::Cause;
-use scx_load_places::{Place, line_at, place_in_line, place_of_line, text_at};
+use scx_load_files::{Cause, Place, line_at, place_in_line, place_of_line, text_at};
 use scxsim_output::Text;
 use scxsim_syntax::{Advice, advice_on};
 use std::alloc::Global;

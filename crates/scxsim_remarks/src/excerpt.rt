@@ -1,4 +1,4 @@
-use scx_load_places::{Place, line_at};
+use scx_load_files::{Place, line_at};
 use scxsim_output::Text;
 
 /// The most characters of a line that are shown.

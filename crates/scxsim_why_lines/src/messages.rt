@@ -1,5 +1,5 @@
 use scx_isa::Callback;
-use scx_load_places::{Place, line_at, place_of_slot};
+use scx_load_files::{Place, line_at, place_of_slot};
 use scxsim_output::Text;
 use std::alloc::Global;
 
