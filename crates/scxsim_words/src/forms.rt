@@ -345,13 +345,13 @@ const FORMS: [Form; 31] = [
         name: "explore",
         kind: Kind::Explore,
         about: "Try every sequence of events under a policy, and print the shortest one for each problem",
-        example: "Example: scxsim explore examples/policies/central.toml examples/workloads/three_tasks.toml events 4\nprints:  found: idle cpu 1 while b waits after 3 events\nand a line for each problem that no sequence has; then the shortest sequence of each problem,\nwith its trace; the longest wait and the most instructions; and last how far the search came.\ndocs/EXPLORE.md explains these lines.",
+        example: "Example: scxsim explore examples/policies/central.toml examples/workloads/three_tasks.toml events 4\nprints:  found: idle cpu 1 while b waits after 3 events\nand a line of the problems that no sequence has; then the shortest sequence of each problem,\nwith its trace; the longest wait and the most instructions; and last how far the search came.\ndocs/EXPLORE.md explains these lines.",
     },
     Form {
         name: "explore-few",
         kind: Kind::ExploreFew,
         about: "Try every sequence of events with at most K wakes and sleeps, and print the shortest one for each problem",
-        example: "Example: scxsim explore-few examples/policies/simple_vtime.toml examples/workloads/three_tasks.toml ms 64 4\nprints:  the lines of explore, and among the first\n         stall none up to 64 ms with 4 wakes and sleeps\ndocs/EXPLORE.md explains these lines.",
+        example: "Example: scxsim explore-few examples/policies/simple_vtime.toml examples/workloads/three_tasks.toml ms 64 4\nprints:  the lines of explore, and among the first\n         no fault, stall or idle CPU up to 64 ms with 4 wakes and sleeps\ndocs/EXPLORE.md explains these lines.",
     },
     Form {
         name: "exec",
