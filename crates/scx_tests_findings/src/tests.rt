@@ -2,4 +2,5 @@ mod files;
 mod findings;
 mod machines;
 mod quotas;
+mod reading;
 mod states;

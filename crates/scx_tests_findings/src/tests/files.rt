@@ -2,7 +2,7 @@
 
 use super::machines::{NO_PROGRAMS, TWO_TASKS, machine, workload};
 use crate::same::expect_same;
-use scx_explore_workloads::{begins_with, workload_file};
+use scx_load_replay::{begins_with, workload_file};
 use scx_sched::Event;
 use std::alloc::{AllocError, Global};
 use std::fmt::Write;
