@@ -3,4 +3,5 @@ pub mod Numbers
 pub mod Bytes
 pub mod CarryingOver
 pub mod EndedRuns
+mod EachMade
 pub mod Lists

@@ -151,22 +151,32 @@ impl<T: Drop> PerCallback<Option<T>> {
             (λ made. (b : _) → Made F.Fn f.now b (at self b) (at made b)) }
         ensures failed { IfErr result (FirstFailed F.Fn f.now self) }
     {
-        Ok(PerCallback {
-            init: made(Callback::Init, self.init, f)?,
-            enable: made(Callback::Enable, self.enable, f)?,
-            select_cpu: made(Callback::SelectCpu, self.select_cpu, f)?,
-            enqueue: made(Callback::Enqueue, self.enqueue, f)?,
-            dispatch: made(Callback::Dispatch, self.dispatch, f)?,
-            running: made(Callback::Running, self.running, f)?,
-            stopping: made(Callback::Stopping, self.stopping, f)?,
-            tick: made(Callback::Tick, self.tick, f)?,
-            dequeue: made(Callback::Dequeue, self.dequeue, f)?,
-            runnable: made(Callback::Runnable, self.runnable, f)?,
-            quiescent: made(Callback::Quiescent, self.quiescent, f)?,
-            update_idle: made(Callback::UpdateIdle, self.update_idle, f)?,
-            set_weight: made(Callback::SetWeight, self.set_weight, f)?,
-            timer: made(Callback::Timer, self.timer, f)?,
-        })
+        let mut values = self;
+        let mut made = PerCallback::none();
+        let outcome = values.make_each(&mut made, f);
+        drop(values);
+        match outcome {
+            Ok(()) => Ok(made),
+            Err(error) => Err(error),
+        }
+    }
+
+    /// Takes each value out, in their order, and sets what the function makes of it, up to the first failure.
+    fn make_each<U: Drop, E, F: Fn(Callback, T) -> Result<U, E>>(
+        &mut self,
+        all_made: &mut PerCallback<Option<U>>,
+        f: &F,
+    ) -> Result<(), E>
+        requires { F.IsAlwaysCallable f.now }
+        ensures made { IfOk result
+            (λ _. (b : _) → Made F.Fn f.now b (at self.old b) (at all_made.new b)) }
+        ensures failed { IfErr result (FirstFailed F.Fn f.now self.old) }
+    {
+        for callback in CALLBACKS {
+            let value = made(callback, self.take(callback), f)?;
+            all_made.set(callback, value);
+        }
+        Ok(())
     }
 }
 

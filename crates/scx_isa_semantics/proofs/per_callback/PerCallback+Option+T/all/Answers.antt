@@ -2,14 +2,9 @@ use Rattle.std.proofs.Common.{◌≡◌, ℕ, ◌+◌, ◌<◌, ◌⊎◌, inl, 
 use Rattle.std.proofs.lemmas.Bool.{cases_eq}
 use Rattle.std.proofs.lemmas.List.{get_or_default}
 use Rattle.scx_isa_semantics.specs.declared.callbacks.Callback.{Callback}
-use Rattle.scx_isa_semantics.specs.declared.callbacks.Callback.TheVariants as callback
-use Rattle.scx_isa_semantics.specs.Callbacks.{callbacks, place, at, Answer}
+use Rattle.scx_isa_semantics.specs.Callbacks.{callbacks, at, Answer}
+use Rattle.scx_isa_semantics.proofs.EachMade.{of_each}
 use Rattle.scx_isa_semantics.proofs.per_callback.PerCallback+Option+T.all.Goals as goal
-
--- what is so of a plain program and of each callback of the list is so of all
-of_each : (P : Callback → Type 0) → P callback.Plain → ((k : ℕ) (d : Callback) → k < 14 → P (get_or callbacks k d)) → (b : Callback) → P b
-of_each P plain each callback.Plain = plain
-of_each P plain each b = each (place b) b (omega arith)
 
 -- what is so of those before and of this one
 and_this : (P : ℕ → Type 0) (i : ℕ) → ((k : ℕ) → k < i → P k) → P i → (k : ℕ) → k < i + 1 → P k
