@@ -7,7 +7,7 @@ use Rattle.scx_sched_world.specs.Tasks.{tick_ns}
 use Rattle.scx_sched_machine.specs.declared.events.Event.{Event}
 use Rattle.scx_sched_machine.specs.declared.events.Event.TheVariants.{Wake, Sleep, Tick, Clock, SetWeight, SetTaskWeight}
 use Rattle.scx_sched.specs.Sim.{SimState, after_event}
-use Rattle.scx_sched.specs.Quiet.{ticks_below, quiet_ms, quiet_events, after_all, GoesQuietly, GoQuietly, TicksWithin, AllWithin}
+use Rattle.scx_sched.specs.Quiet.{ticks_below, quiet_ms, quiet_events, after_all, GoQuietly, TicksWithin, AllWithin}
 use Rattle.scx_sched.proofs.Quiet.{after_both}
 use Rattle.scx_load_workloads.specs.declared.workload.Change.{Change}
 use Rattle.scx_load_driver.specs.declared.driver.Phase.TheVariants as phase
@@ -20,7 +20,6 @@ use Rattle.scx_load_driver.specs.Watch.{last_ticks_of, watched_if, watched_at_ti
 use Rattle.scx_load_driver.specs.Driver.{DriverState, remaining, blocks_left, AreUnwatched}
 use Rattle.scx_load_driver.specs.Passing.{RunsLast, IsCalm}
 use Rattle.scx_load_driver.proofs.Calm.{clock_next, ticks_next}
-use Rattle.scx_load_driver.proofs.Remaining.{remaining_taken}
 
 -- ---- words for the same
 
@@ -280,22 +279,4 @@ skips_both events between rest s t u first second = record {
   whole = first.whole ∙ ap (λ es. first.done ++ es) second.whole ∙ sym (append_assoc first.done second.done rest);
   state = second.state ∙ ap (λ x. stepped_all x second.done) first.state ∙ sym (stepped_both s first.done second.done);
   quietly = quietly_then s first.done second.done first.quietly (subst (λ x. GoQuietly x second.done) first.state second.quietly);
-}
-
--- ---- a tick of a CPU whose task runs on
-
--- no task comes to be watched at the tick of one that lacks more than that
-pub unseen_tick : (last : List ℕ) (s : SimState) (c t : ℕ) → running s.state.world c ≡ Some t → (task_at s.state.world t).run_ns < get_or last t 0 → IsUnseen last s (Tick c)
-unseen_tick last s c t runs lt xs = ap (λ o. watched_at_tick last s.state.world o xs) runs ∙ unwatched_if last s.state.world t xs lt
-
--- a tick that goes quietly, at which no task comes to be watched, is skipped
-pub skips_tick : (d : DriverState) (c : ℕ) (es : List Event) (s t : SimState) → d.pending ≡ Tick c ∷ es → IsUnseen (last_ticks_of d.plan.timings d.memory.ran) s (Tick c) → GoesQuietly s (Tick c) → t ≡ after_event s (Tick c)
-    → Skips (remaining d s) s (remaining (record d { pending = es }) t) t
-skips_tick d c es s t first unseen quietly is = record {
-  done = Tick c ∷ [];
-  whole =
-      remaining_taken d (record d { pending = es }) (Tick c) s first (ap (λ xs. record d { pending = es; watched = xs }) (sym (unseen d.watched)))
-      ∙ ap (λ x. Tick c ∷ remaining (record d { pending = es }) x) (sym is);
-  state = is;
-  quietly = (quietly, tt);
 }

@@ -11,7 +11,7 @@ ghost use Rattle.scx_load_driver.specs.Driver.{is_clock_next, are_ticks_next};
 use crate::blocks::{add_changes, add_sleeps, add_wakes, last_tick, watch_event, watch_runner};
 use crate::calendar::Calendar;
 use crate::set::NumberSet;
-use crate::skipping::{calm_ms, lacks_more, runs_last};
+use crate::skipping::{calm_ms, runs_last};
 use scx_load_workloads::{Change, Timing, Workload};
 use scx_sched::{Event, Sim};
 use std::alloc::{AllocError, Global};
@@ -125,7 +125,7 @@ impl Driver {
             some_watched: true,
             events: Vec::with_capacity(alloc, MAX_BLOCK)?,
             taken: 0,
-            next_try: 1,
+            next_try: 0,
             pause: 1,
         })
     }
@@ -246,22 +246,12 @@ impl Driver {
         }
     }
 
-    /// Gives the machine at once events that come next and of which nothing comes but that tasks run: whole milliseconds
-    /// of them, and the ticks that come next. The machine took exactly the events before them.
-    #[inline(always)]
-    #[tactic(auto, using(crate::proofs::Passing::skips_both))]
-    pub fn skip(&mut self, sim: &mut Sim)
-        ensures { Skips (remaining self.old sim.old) sim.old (remaining self.new sim.new) sim.new }
-    {
-        self.skip_ms(sim);
-        self.tick_on(sim);
-    }
-
     /// Gives the machine at once the events of milliseconds that come next and in which nothing happens but that tasks
-    /// run. After a try that gains little the next ones come later and later.
+    /// run. The machine took exactly the events before them. After a try that gains little the next ones come later and
+    /// later.
     #[inline(always)]
     #[tactic(auto, using(crate::proofs::Passing::skips_none))]
-    fn skip_ms(&mut self, sim: &mut Sim)
+    pub fn skip(&mut self, sim: &mut Sim)
         ensures { Skips (remaining self.old sim.old) sim.old (remaining self.new sim.new) sim.new }
     {
         if self.next_try <= self.clock {
@@ -269,42 +259,7 @@ impl Driver {
         }
     }
 
-    /// Gives the machine the ticks that come next, for as long as the CPUs' tasks run on.
-    #[inline(always)]
-    #[tactic(auto, using(crate::proofs::Passing::skips_none, crate::proofs::Passing::skips_both))]
-    fn tick_on(&mut self, sim: &mut Sim)
-        ensures { Skips (remaining self.old sim.old) sim.old (remaining self.new sim.new) sim.new }
-    {
-        while self.tick_next(sim) {}
-    }
-
-    /// Gives the machine the tick that comes next, if the CPU's task runs on and isn't to be watched. Answers false, and
-    /// does nothing, where that isn't so.
-    #[inline(always)]
-    #[tactic(auto, using(crate::proofs::Passing::skips_none))]
-    fn tick_next(&mut self, sim: &mut Sim) -> bool
-        ensures skips { Skips (remaining self.old sim.old) sim.old (remaining self.new sim.new)
-            sim.new }
-        ensures fewer { result ≡ true → length self.new.pending < length self.old.pending }
-    {
-        let cpu = self.cpu;
-        if self.cpus <= cpu {
-            return false;
-        }
-        let Some(task) = sim.runner(cpu) else {
-            return false;
-        };
-        if !lacks_more(&self.last_ticks, sim, task) {
-            return false;
-        }
-        if !sim.run_on(cpu) {
-            return false;
-        }
-        self.cpu += 1;
-        true
-    }
-
-    /// `skip_ms`, however long ago the last try was.
+    /// `skip`, however long ago the last try was.
     #[tactic(auto, using(crate::proofs::Passing::skips_same, crate::proofs::Passing::skips_both))]
     fn try_to_skip(&mut self, sim: &mut Sim)
         ensures { Skips (remaining self.old sim.old) sim.old (remaining self.new sim.new) sim.new }

@@ -1,5 +1,5 @@
 //! The milliseconds in which nothing happens but that tasks run, as far as a driver knows.
-ghost use Rattle.std.specs.Prelude.{◌≡◌, ℕ, ◌+◌, ◌*◌, ◌<◌, ◌≤◌, true, slice_index};
+ghost use Rattle.std.specs.Prelude.{ℕ, ◌+◌, ◌*◌, ◌<◌, ◌≤◌, slice_index};
 ghost use Rattle.scx_sched_world.specs.World.{task_at};
 ghost use Rattle.scx_sched_world.specs.Tasks.{tick_ns};
 ghost use Rattle.scx_load_driver.specs.Calendar.{IsWhole, soonest_of};
@@ -24,15 +24,6 @@ fn run_lasts(last_ticks: &[u64], sim: &Sim, task: u16) -> u64
     } else {
         0
     }
-}
-
-/// True if the task isn't at its last tick yet.
-#[inline(always)]
-pub(crate) fn lacks_more(last_ticks: &[u64], sim: &Sim, task: u16) -> bool
-    ensures { result ≡ true
-        → (task_at sim.now.state.world task).run_ns < slice_index last_ticks.now task }
-{
-    (task as usize) < last_ticks.len() && sim.run_ns_of(task) < last_ticks[task as usize]
 }
 
 /// The milliseconds, at most that many, after which no task that runs is past its last tick.

@@ -23,8 +23,8 @@ use Rattle.scx_sched_machine.specs.declared.events.Refused.TheVariants.{RunOver,
 use Rattle.scx_sched_machine.specs.Callbacks.{AreAnswered}
 use Rattle.scx_sched_machine.specs.Steps.{State, Stepped, with_world}
 use Rattle.scx_sched_machine.specs.Events as machine
-use Rattle.scx_sched_machine.specs.Quiet.{IsAtRest, IsQuiet, skipped, RunsOn, ran_on}
-use Rattle.scx_sched_machine.proofs.Quiet.{Passes, passes_on, ticked_passes, rest_on, Asks, asks_none, quiet_tick, quiet_clock, busy_tick}
+use Rattle.scx_sched_machine.specs.Quiet.{IsAtRest, IsQuiet, skipped}
+use Rattle.scx_sched_machine.proofs.Quiet.{Passes, passes_on, ticked_passes, rest_on, Asks, asks_none, quiet_tick, quiet_clock}
 use Rattle.scx_sched.specs.Causes.{EjectsOnce}
 use Rattle.scx_sched.specs.Decided.{EventsDecide, Follows}
 use Rattle.scx_sched.specs.Once.{IsOnce, runs}
@@ -175,12 +175,6 @@ some_cpu cpus c t e = go (cases_lt c (length cpus))
     go : (c < length cpus) ⊎ (length cpus ≤ c) → c < length cpus
     go (inl l) = l
     go (inr past) = let none : get_or cpus c None ≡ None = get_or_past cpus c None past in absurd (cc)
-
--- a tick of a CPU whose task runs on goes quietly
-pub leads_busy : (s : State) (n c : ℕ) → RunsOn s c → n < max_events → IsValid s n → Leads tick_ns (at s n) s n (Tick c ∷ []) (ran_on s c) (n + 1)
-leads_busy s n c busy room h =
-    leads_one tick_ns (at s n) s (ran_on s c) n (Tick c) (λ t e. (e, omega arith)) (ap (λ b. cond b None (Some UnknownCpu)) (lt-ltb c (length s.world.cpus) (some_cpu s.world.cpus c busy.task busy.runs))) room h
-    (asks_none (machine.event_step s (Tick c)) (ran_on s c) (busy_tick s c busy)) (ap (λ (x : WorldState). x.queues) (ticked_passes 1 s.world c (running s.world c))) refl
 
 -- who runs on a processor ran there at first, and has run for less than that much longer
 abbrev RunWithin : ℕ → SimState → WorldState → Type 0

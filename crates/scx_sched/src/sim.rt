@@ -1,8 +1,7 @@
-ghost use Rattle.std.specs.Prelude.{◌≡◌, ℕ, ◌+◌, ◌*◌, ◌<◌, ◌≤◌, ◌^◌, true, false, length, None, IfOk, IfErr, OnOk, OnErr};
+ghost use Rattle.std.specs.Prelude.{◌≡◌, ℕ, ◌+◌, ◌*◌, ◌<◌, ◌≤◌, ◌^◌, false, length, None, IfOk, IfErr, OnOk, OnErr};
 ghost use Rattle.scx_dsq.specs.Queues.{entry_of};
 ghost use Rattle.scx_weights.specs.Limits.{usage_of};
 ghost use Rattle.scx_sched_world.specs.World.{nothing_passes, task_at, is_runnable, running, wait, IsLike};
-ghost use Rattle.scx_sched_machine.specs.declared.events.Event.TheVariants.{Tick};
 ghost use Rattle.scx_sched_machine.specs.Hearing.{Hears};
 ghost use Rattle.scx_sched_machine.specs.Notes.{Takes};
 ghost use Rattle.scx_sched_machine.specs.Callbacks.{AreAnswered};
@@ -14,7 +13,7 @@ ghost use Rattle.scx_sched_machine.specs.Start.{is_bad_shape, IsRefusal, start_c
 ghost use Rattle.scx_sched.specs.Causes.{EjectsOnce, IsNeverStuck};
 ghost use Rattle.scx_sched.specs.Current.{AreCurrent};
 ghost use Rattle.scx_sched.specs.Decided.{EventsDecide};
-ghost use Rattle.scx_sched.specs.Quiet.{quiet_events, after_all, GoesQuietly, GoQuietly, AllWithin, AreLeft};
+ghost use Rattle.scx_sched.specs.Quiet.{quiet_events, after_all, GoQuietly, AllWithin, AreLeft};
 ghost use Rattle.scx_sched.specs.Failures.{HasFailed, NoneFails};
 ghost use Rattle.scx_sched.specs.Left.{LeavesNothingIdle};
 ghost use Rattle.scx_sched.specs.Ranges.{IsFresh};
@@ -220,25 +219,6 @@ impl Sim {
         let events = u64::from(self.cpus()) + 1;
         self.machine.skip(u64::from(ms));
         self.left -= u64::from(ms) * events;
-    }
-
-    /// The CPU's tick, if its task runs on after it and nothing else comes of it. Answers false, and does nothing, if that
-    /// isn't known: by Linux rules, where a group has a quota, or where the slice ends.
-    #[inline(always)]
-    #[tactic(auto, using(crate::proofs::Counted::counts))]
-    pub fn run_on(&mut self, cpu: u32) -> bool
-        ensures state { result ≡ true → self.new ≡ after_event self.old (Tick cpu) }
-        ensures quietly { result ≡ true → GoesQuietly self.old (Tick cpu) }
-        ensures same { result ≡ false → self.new ≡ self.old }
-    {
-        let Some(left) = self.left.checked_sub(1) else {
-            return false;
-        };
-        if !self.machine.run_on(cpu) {
-            return false;
-        }
-        self.left = left;
-        true
     }
 
     /// Becomes a copy of the other machine, which has the same policy and queues, and as many tasks, CPUs and

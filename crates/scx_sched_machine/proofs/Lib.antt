@@ -19,3 +19,4 @@ pub mod Counting
 pub mod Alarms
 pub mod Looking
 pub mod Quiet
+pub mod Copying

@@ -34,9 +34,9 @@ use Rattle.scx_sched_machine.specs.Parking.{let_all_go}
 use Rattle.scx_sched_machine.specs.Cycle.{stays_idle, cycling, idles, cycle}
 use Rattle.scx_sched_machine.specs.Rounds.{next_to_look, most_rounds, rounds, with_rounds}
 use Rattle.scx_sched_machine.specs.Events.{is_tick_time, ends_slices, expire, hears_tick, count_down, tick_idle, tick_of, tick, overdue, eject_if_stalled, watch, timers_and_watchdog, clock, event_step}
-use Rattle.scx_sched_machine.specs.Quiet.{FindsNone, IsAtRest, IsQuiet, RunsOn, ran_on}
+use Rattle.scx_sched_machine.specs.Quiet.{FindsNone, IsAtRest, IsQuiet}
 use Rattle.scx_sched_machine.proofs.Choices.{keeps_if}
-use Rattle.scx_sched_machine.proofs.Counting.{count_left, plain_counted}
+use Rattle.scx_sched_machine.proofs.Counting.{count_left}
 use Rattle.scx_sched_machine.proofs.Free.{free_tasks}
 use Rattle.scx_sched_machine.proofs.Idling.{idle_cycle, idles_answered}
 use Rattle.scx_sched_machine.proofs.Leaving.{then_stays}
@@ -163,10 +163,9 @@ slice_known w t lt = go (cases_lt t (length w.tasks))
     go (inr past) = let none : (task_at w t).slice ≡ 0 = ap (λ (x : Task). x.slice) (get_or_past w.tasks t no_task past) in absurd (omega (arith, none, lt))
 
 -- one that runs a task with some of its slice left goes on
-busy_ticks : (s : State) (c t : ℕ) → (is_by_linux s && is_some (program_of s.policy callback.Tick)) ≡ false → has_quota s.world.tree.groups ≡ false → tick_ns < (task_at s.world t).slice
-    → count_down s c t ≡ stays (with_world s (ticked_for 1 s.world c (Some t)))
+busy_ticks : (s : State) (c t : ℕ) → IsAtRest s → tick_ns < (task_at s.world t).slice → count_down s c t ≡ stays (with_world s (ticked_for 1 s.world c (Some t)))
 unfolding hears_tick expire
-busy_ticks s c t deaf none lt = count_left s c t unheard left ∙ ap (λ b. if b && ends_slices v then cycle v c (Some t) true else stays v) more
+busy_ticks s c t h lt = count_left s c t unheard left ∙ ap (λ b. if b && ends_slices v then cycle v c (Some t) true else stays v) more
   where
     w : WorldState
     w = after_tick s.world t
@@ -178,10 +177,10 @@ busy_ticks s c t deaf none lt = count_left s c t unheard left ∙ ap (λ b. if b
     known = slice_known s.world t lt
 
     unheard : hears_tick s ≡ false
-    unheard = ap (λ b. b && is_tick_time s) deaf
+    unheard = ap (λ b. b && is_tick_time s) h.unheard
 
     free : has_quota v.world.tree.groups ≡ false
-    free = keeps_if (λ (u : WorldState). has_quota u.tree.groups ≡ false) (nat_lt t (length w.tasks)) _ w none none
+    free = keeps_if (λ (u : WorldState). has_quota u.tree.groups ≡ false) (nat_lt t (length w.tasks)) _ w h.free h.free
 
     some_left : (b : Bool) (n : ℕ) → b ≡ false → is_some (if b then None else Some n) ≡ true
     some_left true n e = absurd (cc)
@@ -219,33 +218,10 @@ quiet_tick s c h still there lasts = record {
 
     go : (o : Option ℕ) → running s.world c ≡ o → Asks (tick_of o s c) (with_world s (ticked_for 1 s.world c o))
     go None e = idle_ticks s c h still there e
-    go (Some t) e = asks_none (count_down s c t) (with_world s (ticked_for 1 s.world c (Some t))) (busy_ticks s c t h.unheard h.free (lasts t e))
+    go (Some t) e = asks_none (count_down s c t) (with_world s (ticked_for 1 s.world c (Some t))) (busy_ticks s c t h (lasts t e))
 
     asks : Asks (tick_of (running s.world c) s c) (with_world s u)
     asks = go (running s.world c) refl
-
--- ---- a tick of a busy CPU
-
--- by plain rules no CPU looks for work after an event
-plain_rounds : (r : Stepped) → is_by_linux r.state ≡ false → with_rounds r ≡ r
-unfolding with_rounds
-plain_rounds r plain = ap (λ b. if b then one_after_other r (rounds most_rounds r.state) else r) plain
-
--- its task runs on, and that is all
-pub busy_tick : (s : State) (c : ℕ) → RunsOn s c → event_step s (Tick c) ≡ stays (ran_on s c)
-unfolding tick
-busy_tick s c h =
-    ap (λ o. with_rounds (tick_of o s c)) h.runs
-    ∙ ap (λ r. with_rounds r) (busy_ticks s c h.task (ap (λ b. b && is_some (program_of s.policy callback.Tick)) h.plain) h.free h.lasts)
-    ∙ plain_rounds (stays v) (plain_counted s h.task h.plain)
-    ∙ ap (λ o. stays (with_world s (ticked_for 1 s.world c o))) (sym h.runs)
-  where
-    v : State
-    v = with_world s (ticked_for 1 s.world c (Some h.task))
-
--- in other words
-pub runs_on : (s : State) (c t : ℕ) → running s.world c ≡ Some t → tick_ns < (task_at s.world t).slice → is_by_linux s ≡ false → has_quota s.world.tree.groups ≡ false → RunsOn s c
-runs_on s c t runs lasts plain free = record { task = t; runs = runs; lasts = lasts; plain = plain; free = free }
 
 -- ---- the clock
 

@@ -1,13 +1,12 @@
 -- Milliseconds in which nothing happens but that tasks run and the clock grows.
-use Rattle.std.specs.Prelude.{◌≡◌, ℕ, ◌+◌, ◌&&◌, ◌<◌, true, false, length, Some, None, is_some}
+use Rattle.std.specs.Prelude.{◌≡◌, ℕ, ◌+◌, ◌&&◌, ◌<◌, true, false, length, None, is_some}
 use Rattle.scx_isa_semantics.specs.declared.callbacks.Callback.TheVariants as callback
 use Rattle.scx_dsq.specs.Queues.{len_of}
 use Rattle.scx_weights.specs.Limits.{has_quota}
 use Rattle.scx_sched_world.specs.Ids.{parked_queue}
-use Rattle.scx_sched_world.specs.World.{task_at, running}
-use Rattle.scx_sched_world.specs.Tasks.{tick_ns}
+use Rattle.scx_sched_world.specs.World.{running}
 use Rattle.scx_sched_world.specs.Quiet as world
-use Rattle.scx_sched_world.specs.Quiet.{SlicesLast, StaysCalm, ticked_for}
+use Rattle.scx_sched_world.specs.Quiet.{SlicesLast, StaysCalm}
 use Rattle.scx_sched_machine.specs.Policy.{program_of}
 use Rattle.scx_sched_machine.specs.Steps.{State, with_world, is_by_linux}
 use Rattle.scx_sched_machine.specs.Rounds.{next_to_look}
@@ -37,16 +36,3 @@ pub record IsQuiet (n : ℕ) (s : State) : Type 0 where
 -- the machine after that many such milliseconds
 abbrev pub skipped : ℕ → State → State
 skipped n s = with_world s (world.skipped n s.world)
-
--- by plain rules and without quotas a task runs on the CPU, and has some of its slice left after a
--- millisecond
-pub record RunsOn (s : State) (c : ℕ) : Type 0 where
-  pub task : ℕ
-  pub runs : running s.world c ≡ Some task
-  pub lasts : tick_ns < (task_at s.world task).slice
-  pub plain : is_by_linux s ≡ false
-  pub free : has_quota s.world.tree.groups ≡ false
-
--- the machine after a millisecond for which the CPU's task ran on
-abbrev pub ran_on : State → ℕ → State
-ran_on s c = with_world s (ticked_for 1 s.world c (running s.world c))

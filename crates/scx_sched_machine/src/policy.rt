@@ -6,7 +6,7 @@ ghost use Rattle.scx_sched_world.specs.World.{are_linux};
 ghost use Rattle.scx_sched_machine.specs.Vain.{queues_in, asked_in};
 
 use crate::vain::{Asked, asked_by};
-use scx_isa::{Callback, PerCallback, Rules};
+use scx_isa::{CALLBACKS, Callback, PerCallback, Rules};
 use scx_maps::MapDefs;
 use scx_verify::Verified;
 use std::alloc::{AllocError, Global};
@@ -300,84 +300,32 @@ fn asked_in(dispatch: &Option<Verified>) -> Option<Asked>
 fn duplicates_of(callbacks: &Callbacks, alloc: Global) -> Result<Callbacks, AllocError>
     ensures { IfOk result (λ copy. copy ≡ callbacks.now) }
 {
-    let copies = plain_duplicates_of(callbacks, alloc)?;
-    let copies = with_duplicates_of_tasks(copies, callbacks, alloc)?;
-    with_other_duplicates(copies, callbacks, alloc)
+    let mut copies = PerCallback::none();
+    let outcome = set_duplicates(&mut copies, callbacks, alloc);
+    match outcome {
+        Ok(()) => Ok(copies),
+        Err(error) => Err(error),
+    }
 }
 
-/// A copy of the programs of callbacks that plain rules know too, in memory of its own.
-fn plain_duplicates_of(callbacks: &Callbacks, alloc: Global) -> Result<Callbacks, AllocError>
-    ensures { IfOk result (λ copy. copy ≡ record callbacks.now {
-      tick = None;
-      dequeue = None;
-      runnable = None;
-      quiescent = None;
-      update_idle = None;
-      set_weight = None;
-      timer = None;
-    }) }
-{
-    Ok(PerCallback {
-        init: duplicate_of(&callbacks.init, alloc)?,
-        enable: duplicate_of(&callbacks.enable, alloc)?,
-        select_cpu: duplicate_of(&callbacks.select_cpu, alloc)?,
-        enqueue: duplicate_of(&callbacks.enqueue, alloc)?,
-        dispatch: duplicate_of(&callbacks.dispatch, alloc)?,
-        running: duplicate_of(&callbacks.running, alloc)?,
-        stopping: duplicate_of(&callbacks.stopping, alloc)?,
-        tick: None,
-        dequeue: None,
-        runnable: None,
-        quiescent: None,
-        update_idle: None,
-        set_weight: None,
-        timer: None,
-    })
-}
-
-/// These copies, with those of callbacks that tell where a task is.
-fn with_duplicates_of_tasks(
-    copies: Callbacks,
+/// Sets the programs to copies of the others, in memory of their own.
+fn set_duplicates(
+    copies: &mut Callbacks,
     callbacks: &Callbacks,
     alloc: Global,
-) -> Result<Callbacks, AllocError>
-    ensures { IfOk result (λ copy. copy ≡ record copies {
-      tick = callbacks.now.tick;
-      dequeue = callbacks.now.dequeue;
-      runnable = callbacks.now.runnable;
-      quiescent = callbacks.now.quiescent;
-    }) }
+) -> Result<(), AllocError>
+    ensures { OnOk result (copies.new ≡ callbacks.now) }
 {
-    let mut copies = copies;
-    copies.tick = duplicate_of(&callbacks.tick, alloc)?;
-    copies.dequeue = duplicate_of(&callbacks.dequeue, alloc)?;
-    copies.runnable = duplicate_of(&callbacks.runnable, alloc)?;
-    copies.quiescent = duplicate_of(&callbacks.quiescent, alloc)?;
-    Ok(copies)
-}
-
-/// These copies, with those of all other callbacks that Linux rules alone know.
-fn with_other_duplicates(
-    copies: Callbacks,
-    callbacks: &Callbacks,
-    alloc: Global,
-) -> Result<Callbacks, AllocError>
-    ensures { IfOk result (λ copy. copy ≡ record copies {
-      update_idle = callbacks.now.update_idle;
-      set_weight = callbacks.now.set_weight;
-      timer = callbacks.now.timer;
-    }) }
-{
-    let mut copies = copies;
-    copies.update_idle = duplicate_of(&callbacks.update_idle, alloc)?;
-    copies.set_weight = duplicate_of(&callbacks.set_weight, alloc)?;
-    copies.timer = duplicate_of(&callbacks.timer, alloc)?;
-    Ok(copies)
+    for callback in CALLBACKS {
+        let copy = duplicate_of(callbacks.get(callback), alloc)?;
+        copies.set(callback, copy);
+    }
+    Ok(())
 }
 
 /// A copy of the program, if there is one, in memory of its own.
-fn duplicate_of(program: &Option<Verified>, alloc: Global) -> Result<Option<Verified>, AllocError>
-    ensures { IfOk result (λ copy. copy ≡ program.now) }
+fn duplicate_of(program: Option<&Verified>, alloc: Global) -> Result<Option<Verified>, AllocError>
+    ensures { IfOk result (λ copy. copy ≡ option_map (λ p. p.now) program.entry) }
 {
     match program {
         Some(program) => Ok(Some(program.duplicate(alloc)?)),

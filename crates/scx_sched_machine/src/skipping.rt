@@ -1,20 +1,16 @@
-//! Milliseconds in which nothing happens but that tasks run and the clock grows: any number of them at once. Single
-//! ticks of CPUs whose tasks run on.
-ghost use Rattle.std.specs.Prelude.{◌≡◌, ℕ, ◌+◌, ◌^◌, ◌&&◌, ◌<◌, ◌≤◌, true, false, length, is_some};
+//! Milliseconds in which nothing happens but that tasks run and the clock grows: any number of them at once.
+ghost use Rattle.std.specs.Prelude.{◌≡◌, ℕ, ◌+◌, ◌^◌, ◌&&◌, ◌<◌, ◌≤◌, true, length, is_some};
 ghost use Rattle.scx_isa_semantics.specs.declared.callbacks.Callback.TheVariants.{Tick};
 ghost use Rattle.scx_weights.specs.Limits.{usage_of};
 ghost use Rattle.scx_sched_world.specs.World.{task_at};
 ghost use Rattle.scx_sched_machine.specs.Policy.{program_of};
 ghost use Rattle.scx_sched_machine.specs.Steps.{is_by_linux};
-ghost use Rattle.scx_sched_machine.specs.Quiet.{FindsNone, IsAtRest, IsQuiet, skipped, RunsOn, ran_on};
+ghost use Rattle.scx_sched_machine.specs.Quiet.{FindsNone, IsAtRest, IsQuiet, skipped};
 
 use crate::machine::Machine;
 use scx_isa::Callback;
 use scx_sched_world::PARKED;
 use std::cmp;
-
-/// A millisecond, in nanoseconds.
-const MS_NS: u64 = 1_000_000;
 
 /// Quiet milliseconds.
 impl Machine {
@@ -92,29 +88,5 @@ impl Machine {
         ensures few { self.new.world.queues.pushes ≡ self.old.world.queues.pushes }
     {
         self.world.skip(ms);
-    }
-
-    /// The CPU's task runs on for a millisecond: by plain rules, if no group has a quota and some of its slice is left
-    /// after it. Answers false, and does nothing, where that isn't so.
-    #[inline(always)]
-    #[tactic(auto, using(crate::proofs::Quiet::runs_on))]
-    pub fn run_on(&mut self, cpu: u32) -> bool
-        requires early { (t : ℕ) → (task_at self.old.world t).run_ns < 2 ^ 63 }
-        requires used { (g : ℕ) → usage_of self.old.world.tree g < 2 ^ 63 }
-        ensures runs { result ≡ true → RunsOn self.old cpu }
-        ensures state { result ≡ true → self.new ≡ ran_on self.old cpu }
-        ensures same { result ≡ false → self.new ≡ self.old }
-    {
-        if self.is_by_linux() || self.world.is_limited() {
-            return false;
-        }
-        let Some(task) = self.world.running(cpu) else {
-            return false;
-        };
-        if self.world.task(task).slice <= MS_NS {
-            return false;
-        }
-        let _left = self.world.run_and_use_ms(task);
-        true
     }
 }

@@ -43,15 +43,15 @@ fn take<E: Events, S: Sink>(sim: &mut Sim, event: Event, sink: &mut S)
     }
 }
 
-/// After a tick or the clock, gives the machine at once events that come next and of which nothing is noted, unless the
-/// sink is to be shown them.
+/// After the clock, gives the machine at once events that come next and of which nothing is noted, unless the sink is
+/// to be shown them.
 #[inline(always)]
 #[tactic(auto, using(crate::proofs::Going::none_by, crate::proofs::Going::skips_by))]
 fn pass_by<E: Events, S: EventSink>(sim: &mut Sim, event: Event, events: &mut E, sink: &S)
     ensures { PassesBy S.comes (E.remaining events.old sim.old) sim.old
         (E.remaining events.new sim.new) sim.new sink.now }
 {
-    if matches!(event, Event::Tick(_) | Event::Clock) && !sink.heeds_time() {
+    if event == Event::Clock && !sink.heeds_time() {
         events.skip(sim);
     }
 }
