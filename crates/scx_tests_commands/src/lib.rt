@@ -1,5 +1,5 @@
-//! Tests of commands that no file of cases can show: outputs that fail or take little, the largest files, and calls
-//! of the libraries below: the lines of refusals and of notes, pauses of tasks, and progress of a run.
+//! Tests of commands that no file of cases can show: outputs that fail at each of their writes, files that end at each of
+//! their bytes, and progress of a run.
 #![tactic(auto)]
 
 #[cfg(test)]

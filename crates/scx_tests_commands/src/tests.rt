@@ -1,13 +1,6 @@
 mod beginnings;
-mod commands;
-mod failures;
-mod finishing;
-mod limits;
-mod lines;
 mod memory;
-mod pauses;
 mod progress;
 mod runs;
-mod telling;
 mod texts;
 mod writers;

@@ -20,7 +20,7 @@ exit
 ";
 
 /// Gives a task the virtual time of now.
-pub const ENABLE: &str = "r6 = r1
+const ENABLE: &str = "r6 = r1
 *(u32 *)(r10 - 4) = 0
 r2 = r10
 r2 += -4
@@ -33,51 +33,8 @@ out:
 exit
 ";
 
-/// Takes the default choice of a CPU, and inserts the task there if that is idle.
-pub const SELECT_CPU: &str = "r6 = r1
-call 1005
-r7 = r0
-r1 = r0
-call 1006
-if r0 == 0 goto out
-r1 = r6
-r2 = 9223372036854775810 ll
-r3 = 20000000
-r4 = 0
-call 1002
-out:
-r0 = r7
-exit
-";
-
-/// Inserts a task into queue 0 by its virtual time, which is at most 20 ms before that of now.
-pub const ENQUEUE_BY_VTIME: &str = "r6 = r1
-r7 = r2
-*(u32 *)(r10 - 4) = 0
-r2 = r10
-r2 += -4
-r1 = map 0
-call 1
-if r0 == 0 goto out
-r1 = *(u64 *)(r0 + 0)
-r1 += -20000000
-r4 = *(u64 *)(r6 + 16)
-r2 = r4
-r2 -= r1
-if r2 s>= 0 goto put
-r4 = r1
-put:
-r1 = r6
-r2 = 0
-r3 = 20000000
-r5 = r7
-call 1003
-out:
-exit
-";
-
 /// Inserts a task into queue 0, in order of arrival, with a slice of 20 ms.
-pub const ENQUEUE: &str = "r4 = r2
+const ENQUEUE: &str = "r4 = r2
 r2 = 0
 r3 = 20000000
 call 1002
@@ -91,7 +48,7 @@ exit
 ";
 
 /// Brings the virtual time of now up to the task's.
-pub const RUNNING: &str = "r6 = r1
+const RUNNING: &str = "r6 = r1
 *(u32 *)(r10 - 4) = 0
 r2 = r10
 r2 += -4
@@ -109,7 +66,7 @@ exit
 ";
 
 /// Charges a task, by its weight, for the part of its slice that it used.
-pub const STOPPING: &str = "r2 = 20000000
+const STOPPING: &str = "r2 = 20000000
 r3 = *(u64 *)(r1 + 8)
 r2 -= r3
 r2 *= 100

@@ -1,4 +1,5 @@
-//! Tests of the libraries that make up a host: dispatch queues, and the tree of weights and limits.
+//! Tests of the libraries that make up a host, by calls that no file makes: dispatch queues, and trees of weights and
+//! limits that are refused.
 #![tactic(auto)]
 
 #[cfg(test)]

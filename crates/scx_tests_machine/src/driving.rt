@@ -71,40 +71,6 @@ fn a_task_runs_and_sleeps(rt: HostRuntime) {
     expect_events(&rt, SLEEPER, &SLEEPS);
 }
 
-/// Changes out of the order of their times, and a task that first wakes after one of a greater number.
-const CHANGES: &str = "cpus = 2
-ms = 2
-group = [{ name = 'g' }, { name = 'h' }]
-task = [{ name = 'a', group = 'g', start = 1 }, { name = 'b', group = 'h', run = 1 }]
-change = [
-    { at = 1, group = 'h', weight = 200 },
-    { at = 0, group = 'g', weight = 50 },
-    { at = 1, group = 'g', weight = 1 },
-]
-";
-
-const BLOCKS: [Event; 14] = [
-    Event::SetWeight(0, 50),
-    Event::Wake(1),
-    Event::Tick(0),
-    Event::Tick(1),
-    Event::Sleep(1),
-    Event::Clock,
-    Event::SetWeight(1, 200),
-    Event::SetWeight(0, 1),
-    Event::Wake(0),
-    Event::Wake(1),
-    Event::Tick(0),
-    Event::Tick(1),
-    Event::Sleep(1),
-    Event::Clock,
-];
-
-#[test]
-fn blocks_have_their_order(rt: HostRuntime) {
-    expect_events(&rt, CHANGES, &BLOCKS);
-}
-
 /// The task runs for ever.
 const ENDLESS: &str = "cpus = 1
 ms = 10

@@ -1,6 +1,5 @@
-//! Tests of the machine that no file of cases can show: calls that are refused, sinks that fail, and the largest
-//! machines; and of the events of a workload. The program steps a machine as any caller of the libraries may
-//! (`stepping`).
+//! Tests of the machine that no file of cases can show: calls and events that are refused, and milliseconds that pass at
+//! once. The program steps a machine as any caller of the libraries may (`stepping`).
 #![tactic(auto)]
 
 #[cfg(test)]

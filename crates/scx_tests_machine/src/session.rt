@@ -55,13 +55,6 @@ impl Session {
         }
     }
 
-    /// Lets milliseconds go by on the one CPU.
-    pub(crate) fn go_by(&mut self, rt: &impl Abort, milliseconds: u32) {
-        for _ in 0..milliseconds {
-            self.run(rt, &[Event::Tick(0), Event::Clock]);
-        }
-    }
-
     /// Each event is refused so, and nothing is noted and counted.
     pub(crate) fn refuse(&mut self, rt: &impl Abort, rows: &[(Event, Refused)]) {
         let before = (self.sim.events(), self.recorder.notes);
@@ -88,13 +81,6 @@ impl Session {
         let known = task < self.sim.tasks();
         assert!(rt; known);
         self.sim.place(task)
-    }
-
-    /// The task has waited `wanted` milliseconds.
-    pub(crate) fn has_waited(&self, rt: &impl Abort, task: u16, wanted: u64) {
-        let known = task < self.sim.tasks();
-        assert!(rt; known);
-        expect_same(rt, self.sim.wait(task), wanted, task);
     }
 
     /// The machine's own figures, and those of a task.

@@ -1,6 +1,3 @@
-mod crowds;
-mod largest;
 mod refusals;
 mod steps;
-mod timers;
 mod turns;

@@ -1,4 +1,4 @@
-//! Tests of programs: read from bytes and texts, verified, run, and compared with plainer ways of doing so.
+//! Tests of programs: read from bytes and texts, verified, told of, and run also where they aren't safe.
 #![tactic(auto)]
 
 #[cfg(test)]

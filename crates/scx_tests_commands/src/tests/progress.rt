@@ -27,7 +27,7 @@ impl Listener for Record {
     }
 }
 
-/// The listener of the command at that place hears each millisecond, of each time through the run.
+/// The listener of the command at that place hears each millisecond.
 fn expect_heard<R: AllocGlobal + Abort>(rt: &R, place: usize, command: RunCommand) {
     let mut record = Record {
         heard: Vec::new(rt.alloc()),
@@ -36,22 +36,8 @@ fn expect_heard<R: AllocGlobal + Abort>(rt: &R, place: usize, command: RunComman
     let mut out = Counted::new(&mut memory);
     let done = execute(command, rt.alloc(), TWO_TASKS, &mut record, &mut out);
     expect_same(rt, done, Ok(true), place);
-    let once = [(1, 4), (2, 4), (3, 4), (4, 4)];
-    let twice = [
-        (1, 8),
-        (2, 8),
-        (3, 8),
-        (4, 8),
-        (5, 8),
-        (6, 8),
-        (7, 8),
-        (8, 8),
-    ];
-    let wanted = match command {
-        RunCommand::Why => twice.as_slice(),
-        _ => once.as_slice(),
-    };
-    expect_same(rt, record.heard.as_slice(), wanted, place);
+    let wanted = [(1, 4), (2, 4), (3, 4), (4, 4)];
+    expect_same(rt, record.heard.as_slice(), wanted.as_slice(), place);
 }
 
 #[test]

@@ -15,15 +15,3 @@ ms = 4
 group = [{ name = 'g' }]
 task = [{ name = 'a', group = 'g' }, { name = 'b', group = 'g' }]
 ";
-
-/// Three tasks on two CPUs.
-pub(crate) const TWO_CPUS: &str = "
-cpus = 2
-ms = 3
-group = [{ name = 'g' }]
-task = [
-    { name = 'a', group = 'g' },
-    { name = 'b', group = 'g' },
-    { name = 'c', group = 'g' },
-]
-";

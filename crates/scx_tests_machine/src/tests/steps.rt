@@ -2,7 +2,7 @@
 
 use crate::same::expect_same;
 use crate::session::Session;
-use scx_sched::{Eject, Event, Place, Refused};
+use scx_sched::{Event, Place, Refused};
 use std::process::Abort;
 
 /// An act on a machine, or a look at it.
@@ -10,21 +10,12 @@ use std::process::Abort;
 pub(crate) enum Step {
     /// Each event is accepted.
     Run(&'static [Event]),
-    /// The event is accepted, that many times.
-    Repeat(u32, Event),
-    /// Lets milliseconds go by on the one CPU.
-    GoBy(u32),
     /// Each event is refused so, and nothing is noted and counted.
     Refuse(&'static [(Event, Refused)]),
     /// The notes are these, a line each.
     Noted(&'static str),
-    /// The number of notes that were taken.
-    Notes(usize),
     /// The tasks are at these places.
     At(&'static [(u16, Place)]),
-    /// The task has waited that many milliseconds.
-    HasWaited(u16, u64),
-    Ejected(Option<Eject>),
     Clock(u64),
     /// The number of events that were accepted.
     Events(u64),
@@ -33,12 +24,6 @@ pub(crate) enum Step {
 fn act(rt: &impl Abort, session: &mut Session, step: Step) {
     match step {
         Step::Run(events) => session.run(rt, events),
-        Step::Repeat(times, event) => {
-            for _ in 0..times {
-                session.run(rt, &[event]);
-            }
-        }
-        Step::GoBy(milliseconds) => session.go_by(rt, milliseconds),
         Step::Refuse(rows) => session.refuse(rt, rows),
         _ => {}
     }
@@ -47,10 +32,7 @@ fn act(rt: &impl Abort, session: &mut Session, step: Step) {
 fn look(rt: &impl Abort, session: &Session, step: Step) {
     match step {
         Step::Noted(wanted) => session.noted(rt, wanted),
-        Step::Notes(wanted) => expect_same(rt, session.recorder.notes, wanted, "notes"),
         Step::At(places) => session.are_at(rt, places),
-        Step::HasWaited(task, wanted) => session.has_waited(rt, task, wanted),
-        Step::Ejected(wanted) => expect_same(rt, session.sim.ejected(), wanted, "ejected"),
         Step::Clock(wanted) => expect_same(rt, session.sim.clock(), wanted, "clock"),
         Step::Events(wanted) => expect_same(rt, session.sim.events(), wanted, "events"),
         _ => {}

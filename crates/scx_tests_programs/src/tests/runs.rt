@@ -2,9 +2,9 @@
 
 use crate::same::expect_same;
 use scx_asm::assemble;
-use scx_isa::{Callback, Helper, Program, TaskId, flow};
+use scx_isa::{Callback, Program, TaskId, flow};
 use scx_maps::{MapDefs, MapKind, Maps, Shape, Size};
-use scx_tests_examples::{DISPATCH, ENABLE, ENQUEUE, INIT, OneTask, RUNNING, STOPPING};
+use scx_tests_examples::{INIT, OneTask};
 use scx_vm::{Arg, Args};
 use scx_vm_tagged::{Ending, run_unwatched};
 use std::alloc::{AllocError, Global};
@@ -21,13 +21,6 @@ const LOOKUP: &str = "*(u32 *)(r10 - 4) = 0\nr2 = r10\nr2 += -4\nr1 = map 0\ncal
 const ONE: Args = Args {
     first: TASK,
     second: Arg::Unset,
-    third: Arg::Unset,
-};
-
-/// The arguments of enqueue, with a flag.
-const FLAGS: Args = Args {
-    first: TASK,
-    second: Arg::Num(1),
     third: Arg::Unset,
 };
 
@@ -131,73 +124,6 @@ fn outcome(alloc: Global, ran: Option<Ending>, left: u64) -> Result<String, Allo
         Some(Ending::Stuck(slot)) => format!(in alloc; "stuck at {slot}, {left}"),
         None => format!(in alloc; "refused"),
     }
-}
-
-/// The host's last call was of that helper, with these first arguments.
-fn expect_call(rt: &impl Abort, host: &OneTask, helper: Helper, given: &[Arg]) {
-    assert!(rt; host.called == Some(helper));
-    for (number, argument) in given.iter().enumerate() {
-        expect_same(rt, host.given.get(number), Some(argument), number);
-    }
-}
-
-#[test]
-fn calls_are_given_what_they_take(rt: HostRuntime) -> Result<(), Fail> {
-    let mut host = OneTask::new();
-    let none = Args::NONE;
-    expect(
-        &rt,
-        &mut host,
-        &[(INIT, Callback::Init, none, 9, "0 in 3 steps, 9")],
-    )?;
-    let given_to_init = [Arg::Num(0), Arg::Unset];
-    expect_call(&rt, &host, Helper::CreateDsq, &given_to_init);
-    expect(
-        &rt,
-        &mut host,
-        &[(ENQUEUE, Callback::Enqueue, FLAGS, 9, "0 in 5 steps, 9")],
-    )?;
-    expect_call(&rt, &host, Helper::DsqInsert, &GIVEN_TO_ENQUEUE);
-    expect(
-        &rt,
-        &mut host,
-        &[(DISPATCH, Callback::Dispatch, none, 9, "0 in 3 steps, 9")],
-    )?;
-    expect_call(&rt, &host, Helper::DsqMoveToLocal, &[]);
-    Ok(())
-}
-
-/// The task, the queue, the slice and the flags with which a task is inserted.
-const GIVEN_TO_ENQUEUE: [Arg; 5] = [
-    TASK,
-    Arg::Num(0),
-    Arg::Num(20_000_000),
-    Arg::Num(1),
-    Arg::Unset,
-];
-
-const LATER_TIMES: [Row<'_>; 3] = [
-    (RUNNING, Callback::Running, ONE, 100, "0 in 14 steps, 1000"),
-    (RUNNING, Callback::Running, ONE, 2000, "0 in 13 steps, 2000"),
-    (ENABLE, Callback::Enable, ONE, 777, "0 in 10 steps, 777"),
-];
-
-#[test]
-fn the_later_time_is_kept(rt: HostRuntime) -> Result<(), Fail> {
-    let mut host = OneTask::new();
-    expect(&rt, &mut host, &LATER_TIMES)?;
-    expect_same(&rt, host.vtime, 777, "vtime");
-    Ok(())
-}
-
-const CHARGED: [Row<'_>; 1] = [(STOPPING, Callback::Running, ONE, 9, "0 in 10 steps, 9")];
-
-#[test]
-fn a_task_is_charged_by_weight(rt: HostRuntime) -> Result<(), Fail> {
-    let mut host = OneTask::new();
-    expect(&rt, &mut host, &CHARGED)?;
-    expect_same(&rt, host.vtime, 30_001_000, "vtime");
-    Ok(())
 }
 
 /// Runs, as init, a look-up in a map of 777 and then these lines.

@@ -1,6 +1,0 @@
-mod files;
-mod findings;
-mod machines;
-mod quotas;
-mod reading;
-mod states;
