@@ -3,7 +3,7 @@ use Rattle.std.specs.Prelude.{ℕ, ◌+◌, ◌≤◌, List, length, Option}
 use Rattle.scx_maps.specs.declared.shape.Shape.{Shape}
 use Rattle.scx_weights.specs.Hierarchy.{Hierarchy}
 use Rattle.scx_sched_machine.specs.declared.events.Event.{Event}
-use Rattle.scx_sched_machine.specs.Policy.{PolicyState}
+use Rattle.scx_sched_policy.specs.Policy.{PolicyState}
 use Rattle.scx_sched.specs.Sim.{SimState, IsFirstState, IsValid, max_events}
 use Rattle.scx_explore_findings.specs.declared.finding.Sort.{Sort}
 use Rattle.scx_explore_findings.specs.WholeForms.{IsWhole, IsPlain, IsLed}

@@ -9,7 +9,7 @@ use Rattle.scx_sched_world.specs.Pending.{is_pending, pending_below}
 use Rattle.scx_sched_machine.specs.declared.events.Event.{Event}
 use Rattle.scx_sched_machine.specs.declared.events.Event.TheVariants.{Wake, Sleep, Tick, Clock, SetWeight, SetTaskWeight}
 use Rattle.scx_sched_machine.specs.declared.events.Refused.TheVariants.{AlreadyRunnable, NotRunnable, UnknownTask, BadWeight}
-use Rattle.scx_sched_machine.specs.Policy.{PolicyState}
+use Rattle.scx_sched_policy.specs.Policy.{PolicyState}
 use Rattle.scx_sched_machine.specs.Steps.{State, CallMade, Stepped, with_world, is_by_linux, stays, one_after_other}
 use Rattle.scx_sched_machine.specs.Events.{refusal, own_step, event_step}
 use Rattle.scx_sched_machine.specs.Rounds.{most_rounds, next_to_look, round, round_then, rounds, with_rounds}

@@ -28,7 +28,7 @@ use Rattle.scx_sched_world.specs.World.{WorldState, with_queues, with_tree, is_b
 use Rattle.scx_sched_world.specs.Tasks.{with_slice, with_home, after_sleep, after_leave, homed, local_cpu, homed_at, after_local, after_preempt_of, after_preempt_at, after_preempt, task_after_insert, rank_by, after_enter, for_cpu, to_front, brought, after_keep, put_parked, used_ms, after_reweigh, after_own_weight}
 use Rattle.scx_sched_world.specs.Ejecting.{put_out, put_builtin, after_evictions, cut_task, after_cut}
 use Rattle.scx_sched_world.specs.Helpers.{is_dispatch, with_insert, after_release, insert_or_fault, moved_to_local, helper_after, world_functions}
-use Rattle.scx_sched_machine.specs.Policy.{PolicyState}
+use Rattle.scx_sched_policy.specs.Policy.{PolicyState}
 use Rattle.scx_sched_machine.specs.Steps.{State, Stepped, is_ejected}
 use Rattle.scx_sched_machine.specs.Ejecting.{moves_over, eject, ejected_for}
 use Rattle.scx_sched_machine.specs.Callbacks.{call_ending, after_callback, cause_of, acting, call_back, task_and_number}

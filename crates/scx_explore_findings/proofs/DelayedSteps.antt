@@ -21,7 +21,7 @@ use Rattle.scx_sched_world.specs.Ids.{global, local_on}
 use Rattle.scx_sched_world.specs.World.{WorldState, at_callback, note_now}
 use Rattle.scx_sched_world.specs.Tasks.{after_enter, fill_front, after_fill, put_parked, after_leave, next_for}
 use Rattle.scx_sched_world.specs.Ejecting.{eject_of, put_builtin, put_out, after_evictions, evict_notes, after_cut, eject_note}
-use Rattle.scx_sched_machine.specs.Policy.{PolicyState, program_of}
+use Rattle.scx_sched_policy.specs.Policy.{PolicyState, program_of}
 use Rattle.scx_sched_machine.specs.Steps.{State, CallMade, Stepped, with_world, is_ejected, is_by_linux, stays, after, one_after_other}
 use Rattle.scx_sched_machine.specs.Ejecting.{moves_over, eject, ejected_for}
 use Rattle.scx_sched_machine.specs.Callbacks.{call_ending, after_callback, calls_of, answer_fault, end_fault, as_cause, or_cause, cause_of, unless_ejected, acting, call_back, call_by_linux, answered_by, noted_by, task_and_number}

@@ -21,7 +21,7 @@ use Rattle.scx_sched_world.specs.Tasks.{with_since, for_cpu, to_front}
 use Rattle.scx_sched_world.specs.Ejecting.{put_out, after_evictions}
 use Rattle.scx_sched_world.specs.Helpers.{world_functions}
 use Rattle.scx_sched_machine.specs.declared.events.Event.{Event}
-use Rattle.scx_sched_machine.specs.Policy.{PolicyState}
+use Rattle.scx_sched_policy.specs.Policy.{PolicyState}
 use Rattle.scx_sched_machine.specs.Steps.{State, Stepped, is_ejected}
 use Rattle.scx_sched_machine.specs.Ejecting.{moves_over, eject, ejected_for}
 use Rattle.scx_sched_machine.specs.Callbacks.{call_ending, after_callback, cause_of, acting, call_back, task_and_number}

@@ -33,7 +33,7 @@ use Rattle.scx_sched_world.specs.Ids.{parked_queue, local_on}
 use Rattle.scx_sched_world.specs.World.{WorldState, with_queues, with_tree, is_by_linux, with_kick, at_callback, task_at, with_task, running, is_this, choice, after_claim}
 use Rattle.scx_sched_world.specs.Tasks.{with_since, with_slice, with_home, after_leave, homed, local_cpu, homed_at, after_local, task_after_insert, rank_by, after_preempt_of, after_preempt_at, after_preempt, after_enter, for_cpu, to_front, brought, started_at, after_run, after_keep, put_parked, after_sleep, used_ms, after_reweigh, after_own_weight}
 use Rattle.scx_sched_world.specs.Helpers.{is_dispatch, with_insert, after_release, insert_or_fault, moved_to_local, helper_after, world_functions}
-use Rattle.scx_sched_machine.specs.Policy.{PolicyState, program_of}
+use Rattle.scx_sched_policy.specs.Policy.{PolicyState, program_of}
 use Rattle.scx_sched_machine.specs.Steps.{State, Stepped}
 use Rattle.scx_sched_machine.specs.Ejecting.{eject, ejected_for}
 use Rattle.scx_sched_machine.specs.Callbacks.{call_ending, after_callback, cause_of, unless_ejected, acting, call_back, task_and_number}

@@ -9,7 +9,7 @@ use Rattle.scx_sched_world.specs.Ids.{global, held_queue, builtin_queue, parked_
 use Rattle.scx_sched_world.specs.First.{with_locals, own_queues, first_world, with_homes_below}
 use Rattle.scx_sched_world.specs.World.{WorldState, at_callback, binds}
 use Rattle.scx_sched_world.specs.Tasks.{begun_periods}
-use Rattle.scx_sched_machine.specs.Policy.{PolicyState}
+use Rattle.scx_sched_policy.specs.Policy.{PolicyState}
 use Rattle.scx_sched_machine.specs.Steps.{State}
 use Rattle.scx_sched_machine.specs.Callbacks.{acting}
 use Rattle.scx_sched_machine.specs.Start.{by_policy, blank, first_state}

@@ -35,7 +35,7 @@ use Rattle.scx_sched_world.specs.Ids.{global, held_queue, builtin_queue, parked_
 use Rattle.scx_sched_world.specs.Tasks.{with_home, begun_periods}
 use Rattle.scx_sched_world.specs.World.{WorldState, task_at, first_home, at_callback, binds}
 use Rattle.scx_sched_machine.specs.Callbacks.{call_ending, acting}
-use Rattle.scx_sched_machine.specs.Policy.{PolicyState}
+use Rattle.scx_sched_policy.specs.Policy.{PolicyState}
 use Rattle.scx_sched_machine.specs.Start.{by_policy, blank, first_state}
 use Rattle.scx_sched_machine.specs.Steps.{State}
 use Rattle.scx_sched_machine.proofs.Choices.{keeps_if}

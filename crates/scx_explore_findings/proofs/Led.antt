@@ -4,7 +4,7 @@ use Rattle.scx_dsq.specs.Queues.{entry_of}
 use Rattle.scx_maps.specs.declared.shape.Shape.{Shape}
 use Rattle.scx_sched_machine.specs.declared.events.Event.{Event}
 use Rattle.scx_sched_machine.specs.Events as machine
-use Rattle.scx_sched_machine.specs.Policy.{PolicyState}
+use Rattle.scx_sched_policy.specs.Policy.{PolicyState}
 use Rattle.scx_sched.specs.Ranges.{IsFine}
 use Rattle.scx_sched.specs.Sim.{SimState, refusal, stepped_if, after_event}
 use Rattle.scx_sched.proofs.Deciding.{accepted, decides}

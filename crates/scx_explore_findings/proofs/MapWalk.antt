@@ -62,7 +62,7 @@ use Rattle.scx_sched_machine.specs.declared.events.Event.{Event}
 use Rattle.scx_sched_machine.specs.Callbacks.{call_ending, after_callback, cause_of, acting, call_back, task_and_number}
 use Rattle.scx_sched_machine.specs.Ejecting.{eject, moves_over, ejected_for}
 use Rattle.scx_sched_machine.specs.Events.{insert_or_put}
-use Rattle.scx_sched_machine.specs.Policy.{PolicyState}
+use Rattle.scx_sched_policy.specs.Policy.{PolicyState}
 use Rattle.scx_sched_machine.specs.Put.{enters, enqueue_choice, enters_builtin, comes_in, put}
 use Rattle.scx_sched_machine.specs.Steps.{State, Stepped, is_ejected}
 use Rattle.scx_sched_machine.proofs.Choices.{keeps_if}

@@ -42,7 +42,7 @@ use Rattle.scx_sched_machine.specs.Callbacks.{call_ending, after_callback, cause
 use Rattle.scx_sched_machine.specs.declared.events.Event.{Event}
 use Rattle.scx_sched_machine.specs.Ejecting.{eject, moves_over, ejected_for}
 use Rattle.scx_sched_machine.specs.Events.{insert_or_put, inserted_by_choice, chosen_by_default}
-use Rattle.scx_sched_machine.specs.Policy.{PolicyState}
+use Rattle.scx_sched_policy.specs.Policy.{PolicyState}
 use Rattle.scx_sched_machine.specs.Put.{enters, enqueue_choice, enters_builtin, comes_in, put}
 use Rattle.scx_sched_machine.specs.Steps.{State, Stepped, is_ejected}
 use Rattle.scx_sched_machine.proofs.Choices.{keeps_if}

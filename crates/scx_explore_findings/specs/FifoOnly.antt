@@ -17,7 +17,7 @@ use Rattle.scx_vm.specs.Programs.{VerifiedProgram}
 use Rattle.scx_sched_world.specs.declared.call.Insert.{Insert}
 use Rattle.scx_sched_world.specs.World.{WorldState}
 use Rattle.scx_sched_machine.specs.declared.events.Event.{Event}
-use Rattle.scx_sched_machine.specs.Policy.{PolicyState, program_of}
+use Rattle.scx_sched_policy.specs.Policy.{PolicyState, program_of}
 use Rattle.scx_sched.specs.Sim.{SimState, IsFirstState}
 use Rattle.scx_load_driver.specs.Runs.{stepped_all}
 use Rattle.scx_explore_states.specs.Rows.{waiting_key}

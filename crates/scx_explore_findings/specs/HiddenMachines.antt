@@ -2,7 +2,7 @@
 use Rattle.std.specs.Prelude.{◌≡◌, ⊤, true, List, [], ◌∷◌, map}
 use Rattle.scx_isa_semantics.specs.declared.callbacks.Callback.{Callback}
 use Rattle.scx_sched_machine.specs.declared.events.Event.{Event}
-use Rattle.scx_sched_machine.specs.Policy.{PolicyState, program_of}
+use Rattle.scx_sched_policy.specs.Policy.{PolicyState, program_of}
 use Rattle.scx_sched.specs.Sim.{SimState, refusal, after_event, notes_of, calls_of}
 use Rattle.scx_load_driver.specs.Runs.{stepped_all, notes_of_all, AreAccepted}
 use Rattle.scx_explore_findings.specs.Hidden.{Hidden}

@@ -28,7 +28,7 @@ use Rattle.scx_sched_world.specs.Helpers.{given_number}
 use Rattle.scx_sched_world.specs.Tasks.{with_slice}
 use Rattle.scx_sched_world.specs.World.{WorldState, is_this}
 use Rattle.scx_sched_machine.specs.declared.events.Event.{Event}
-use Rattle.scx_sched_machine.specs.Policy.{PolicyState, program_of}
+use Rattle.scx_sched_policy.specs.Policy.{PolicyState, program_of}
 use Rattle.scx_sched_machine.specs.Steps.{State}
 use Rattle.scx_sched.specs.Sim.{SimState, refusal, after_event}
 use Rattle.scx_explore_findings.specs.Hidden.{with_tasks}

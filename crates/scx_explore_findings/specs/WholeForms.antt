@@ -21,7 +21,7 @@ use Rattle.scx_sched_tasks.specs.Tasks.{no_task}
 use Rattle.scx_sched_world.specs.declared.cpu_set.CpuSet.{CpuSet}
 use Rattle.scx_sched_world.specs.CpuSets.{no_cpus}
 use Rattle.scx_sched_world.specs.World.{WorldState, IsLike, are_linux, nothing_passes}
-use Rattle.scx_sched_machine.specs.Policy.{PolicyState, IsTimeout, program_of}
+use Rattle.scx_sched_policy.specs.Policy.{PolicyState, IsTimeout, program_of}
 use Rattle.scx_sched.specs.Ranges.{IsFine}
 use Rattle.scx_sched.specs.Sim.{SimState}
 use Rattle.scx_sched.specs.Waits.{IsTimely}

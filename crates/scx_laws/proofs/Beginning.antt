@@ -23,7 +23,7 @@ use Rattle.scx_sched_world.specs.Tasks.{begun_periods}
 use Rattle.scx_sched_world.specs.Helpers.{invalid, with_fault, can_create, create_answer, after_create_dsq}
 use Rattle.scx_sched_world.specs.declared.faults.Fault.TheVariants.{CannotCreate}
 use Rattle.scx_sched_world.specs.Ids.{global, held_queue, builtin_queue, parked_queue, local_on}
-use Rattle.scx_sched_machine.specs.Policy.{PolicyState, program_of, tracks_idle}
+use Rattle.scx_sched_policy.specs.Policy.{PolicyState, program_of, tracks_idle}
 use Rattle.scx_sched_machine.specs.Steps.{State, with_world, is_by_linux}
 use Rattle.scx_sched_machine.specs.Callbacks.{call_ending, after_callback, acting, no_arguments, one_task, task_and_number}
 use Rattle.scx_sched_machine.specs.Start.{is_bad_shape, is_nowhere, by_policy, blank, init_ending, bad_answer, ok_unless, after_init, failure, begin_with, begin_by_linux, enable, then_weigh, then_enable, after_enables, then_all_idle, unmarked, after_idles, all_enabled, first_state}

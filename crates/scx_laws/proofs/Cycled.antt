@@ -29,7 +29,7 @@ use Rattle.scx_sched_world.specs.Ejecting.{after_charge, after_catch_up}
 use Rattle.scx_sched_world.specs.Helpers.{with_insert, with_move, moved_to_local}
 use Rattle.scx_sched_world.proofs.Empty.{empty_next}
 use Rattle.scx_sched_world.proofs.Fronts.{front_in, unbound_next}
-use Rattle.scx_sched_machine.specs.Policy.{program_of}
+use Rattle.scx_sched_policy.specs.Policy.{program_of}
 use Rattle.scx_sched_machine.specs.Steps.{State, Stepped, with_world, stays, one_after_other, is_by_linux}
 use Rattle.scx_sched_machine.specs.Callbacks.{call_back, noted_by, one_task, task_and_number, cpu_and_task}
 use Rattle.scx_sched_machine.specs.Put.{enters, put}

@@ -16,7 +16,7 @@ use Rattle.scx_sched_world.specs.World.{WorldState, nothing_passes, or_switch, w
 use Rattle.scx_sched_world.specs.Tasks.{homed, local_len, after_switch}
 use Rattle.scx_sched_machine.specs.Steps.{State, Stepped, with_world, stays, one_after_other, is_by_linux, kicked, kicked_if_idle}
 use Rattle.scx_sched_machine.specs.Cycle.{keeps_slice, asks_again, switched, give_up, hears_idle}
-use Rattle.scx_sched_machine.specs.Policy.{program_of}
+use Rattle.scx_sched_policy.specs.Policy.{program_of}
 use Rattle.scx_sched_machine.specs.Callbacks.{call_back, call_by_linux, one_task}
 use Rattle.scx_sched_machine.specs.Events.{from_waker, told_of_sleep, is_tick_time, ends_slices, hears_tick, tick_heard}
 use Rattle.scx_laws.specs.Differences.{with_home_at, Homes, StaysAtHome, MovesHome, IsCurrent, NoSwitch, SwitchesHere, SwitchesElsewhere, BeginsSwitch, NoSwitchByPlain, IsSwitching, Begins, BeginsCycle, BeginsByPlain, BeginsByLinux, EndsCycle, EndsAsByPlain, EndsAsByLinux, IsHere, WokenFrom, AtHand, TellsWaker, NoWaker, HasWaker, CallsIfThere, IsPlain, IsAbsent, IsThere, IsTickTime, EachMs, AtTick, HearsTick, NoTickByPlain, HasNoTick, BetweenTicks, IsCalled, HearsIdle, HasUpdateIdle, KeepsSlice, HasLeft, GivesWay, NoTask, ByPlain, UsedUp, Switches, SwitchesByPlain, SwitchesExactly, TakesTime, EndsSlices, EndsByPlain, EndsAtTick, TellsSleep, TellsNobody, Tells, IsToAsk, GivesUp, GivesUpByPlain, HasAsked, LooksAgain, LooksIfIdle, LooksByPlain, IsBusy, Looks}

@@ -27,7 +27,7 @@ use Rattle.scx_sched_world.specs.World.{WorldState, task_at, with_slept, is_thro
 use Rattle.scx_sched_world.specs.Tasks.{after_local, local_len, brought, started_at, after_switch, after_keep, after_tick, used_ms, after_sleep, after_leave, next_for}
 use Rattle.scx_sched_world.specs.Helpers.{can_move, moved_to_local, with_fault}
 use Rattle.scx_sched_machine.specs.Steps.{State, Stepped, with_world, stays, one_after_other, is_ejected, is_by_linux, kicked}
-use Rattle.scx_sched_machine.specs.Policy.{PolicyState, program_of}
+use Rattle.scx_sched_policy.specs.Policy.{PolicyState, program_of}
 use Rattle.scx_sched_machine.specs.Ejecting.{ejected_for}
 use Rattle.scx_sched_machine.specs.Callbacks.{after_callback, or_cause, cause_of, unless_ejected, acting, call_back, call_by_linux, one_task, task_and_number, cpu_and_task}
 use Rattle.scx_sched_machine.specs.Custody.{tells_each, moved_as, hears_dequeue, tells_left}

@@ -19,7 +19,7 @@ use Rattle.scx_sched_world.specs.World.{WorldState, task_at, running, without_ki
 use Rattle.scx_sched_world.specs.Tasks.{local_len, after_run, after_switch, after_cut_off}
 use Rattle.scx_sched_world.proofs.Fronts.{front_in}
 use Rattle.scx_sched_machine.specs.Steps.{State, Stepped, with_world, stays, one_after_other, is_ejected, is_by_linux, kicked}
-use Rattle.scx_sched_machine.specs.Policy.{PolicyState, program_of}
+use Rattle.scx_sched_policy.specs.Policy.{PolicyState, program_of}
 use Rattle.scx_sched_machine.specs.Callbacks.{call_back, call_by_linux, cpu_and_task, two_numbers}
 use Rattle.scx_sched_machine.specs.Custody.{tells_each, moved_as, hears_dequeue, tells_left}
 use Rattle.scx_sched_machine.specs.Parking.{supply}

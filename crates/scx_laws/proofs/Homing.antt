@@ -8,7 +8,7 @@ use Rattle.scx_sched_tasks.specs.Tasks.{no_task, new_task}
 use Rattle.scx_sched_world.specs.World.{WorldState, task_at, binds, lowest_cpu, first_home}
 use Rattle.scx_sched_world.specs.Tasks.{with_home, begun_periods}
 use Rattle.scx_sched_world.specs.First.{first_world, with_first_home, with_homes_below, at_first_homes}
-use Rattle.scx_sched_machine.specs.Policy.{PolicyState}
+use Rattle.scx_sched_policy.specs.Policy.{PolicyState}
 use Rattle.scx_sched_machine.specs.Steps.{State, with_world}
 use Rattle.scx_sched_machine.specs.Start.{by_policy, blank}
 use Rattle.scx_laws.specs.Starts.{AreAtHome, IsBlank}

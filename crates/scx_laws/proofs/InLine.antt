@@ -31,7 +31,7 @@ use Rattle.scx_sched_world.specs.declared.faults.Fault.TheVariants.{NoSuchQueue,
 use Rattle.scx_weights.specs.Refusals.{weight_fault, own_weight_fault}
 use Rattle.scx_sched_world.specs.Helpers.{with_fault, can_move, is_held, flags_fault, insert_fault, insert_or_fault, after_late, after_insert, with_insert, moved_to_local}
 use Rattle.scx_sched_world.specs.Ejecting.{put_builtin, evict}
-use Rattle.scx_sched_machine.specs.Policy.{PolicyState, program_of}
+use Rattle.scx_sched_policy.specs.Policy.{PolicyState, program_of}
 use Rattle.scx_sched_machine.specs.Steps.{State, Stepped, with_world, one_after_other, is_by_linux, is_ejected}
 use Rattle.scx_sched_machine.specs.Ejecting.{moves_over, eject, ejected_for}
 use Rattle.scx_sched_machine.specs.Callbacks.{call_ending, after_callback, answer_fault, as_cause, or_cause, cause_of, unless_ejected, acting, call_back, task_cpu_and_0, task_and_number}

@@ -24,7 +24,7 @@ use Rattle.scx_sched_world.specs.Ejecting.{put_builtin}
 use Rattle.scx_sched_world.proofs.Fronts.{front_in, unbound_next, AtParked, at_front, at_behind, behind_in}
 use Rattle.scx_sched_machine.specs.Steps.{State, Stepped, with_world, one_after_other}
 use Rattle.scx_sched_machine.specs.Ejecting.{eject}
-use Rattle.scx_sched_machine.specs.Policy.{program_of}
+use Rattle.scx_sched_policy.specs.Policy.{program_of}
 use Rattle.scx_sched_machine.specs.Callbacks.{answer_fault, call_back, task_cpu_and_0}
 use Rattle.scx_sched_machine.specs.Put.{enters, put}
 use Rattle.scx_sched_machine.specs.Filling.{fill}

@@ -19,7 +19,7 @@ use Rattle.scx_sched_world.specs.Tasks.{next_for, begun_periods}
 use Rattle.scx_sched_machine.specs.declared.events.Event.{Event}
 use Rattle.scx_sched_machine.specs.declared.events.Event.TheVariants.{Wake, Sleep, Tick, Clock, SetWeight, SetTaskWeight}
 use Rattle.scx_sched_machine.specs.declared.events.Refused.{Refused}
-use Rattle.scx_sched_machine.specs.Policy.{PolicyState}
+use Rattle.scx_sched_policy.specs.Policy.{PolicyState}
 use Rattle.scx_sched_machine.specs.Steps.{State, Stepped, one_after_other, is_by_linux}
 use Rattle.scx_sched_machine.specs.Callbacks.{acting}
 use Rattle.scx_sched_machine.specs.Events as machine

@@ -26,7 +26,7 @@ use Rattle.scx_sched_world.specs.World.{WorldState, with_queues, with_task, task
 use Rattle.scx_sched_world.specs.Tasks.{with_slice, with_builtin, rank_by, task_after_insert, after_leave, after_local, after_enter, for_cpu, next_for}
 use Rattle.scx_sched_world.specs.Helpers.{is_dispatch, insert_fault, with_insert, with_move, after_release, insert_or_fault, moved_to_local, stored_in, world_functions}
 use Rattle.scx_sched_world.specs.Ejecting.{eject_of, put_out, put_builtin, builtin_vtime, evict, after_evictions, evict_note, evict_notes, after_cut, cut_task, eject_note}
-use Rattle.scx_sched_machine.specs.Policy.{program_of}
+use Rattle.scx_sched_policy.specs.Policy.{program_of}
 use Rattle.scx_sched_machine.specs.Steps.{State, Stepped, stays, one_after_other, is_by_linux}
 use Rattle.scx_sched_machine.specs.Ejecting.{moves_over, eject, ejected_for}
 use Rattle.scx_sched_machine.specs.Callbacks.{call_ending, acting, cause_of, after_callback, call_back, call_by_linux}

@@ -12,7 +12,7 @@ use Rattle.scx_sched_world.specs.Tasks.{tick_ns}
 use Rattle.scx_sched_machine.specs.declared.events.Event.{Event}
 use Rattle.scx_sched_machine.specs.declared.events.Event.TheVariants.{Wake, Sleep, Tick, Clock, SetWeight, SetTaskWeight}
 use Rattle.scx_sched_machine.specs.declared.events.Refused.{Refused}
-use Rattle.scx_sched_machine.specs.Policy.{PolicyState}
+use Rattle.scx_sched_policy.specs.Policy.{PolicyState}
 use Rattle.scx_sched.specs.Once.{runs, IsSound}
 use Rattle.scx_sched.specs.Sim.{SimState, refusal, stepped_if, after_event, notes_if, notes_of}
 use Rattle.scx_sched.proofs.Deciding.{accepted}

@@ -13,7 +13,7 @@ use Rattle.scx_sched_world.specs.World as world
 use Rattle.scx_sched_world.specs.World.{WorldState, task_at, is_runnable, running, is_idle, is_this, choice, default_choice, after_claim, may_run, first_home, with_waker, at_callback, note_now}
 use Rattle.scx_sched_world.specs.Helpers.{is_dispatch, with_insert}
 use Rattle.scx_sched_world.specs.Tasks.{with_since, for_cpu, to_local, homed, after_wake}
-use Rattle.scx_sched_machine.specs.Policy.{program_of}
+use Rattle.scx_sched_policy.specs.Policy.{program_of}
 use Rattle.scx_sched_machine.specs.Steps.{State, Stepped, stays, with_world, is_ejected, is_by_linux, kicked_if_idle}
 use Rattle.scx_sched_machine.specs.Callbacks.{acting, call_back, call_by_linux, answered_by, task_cpu_and_0, task_and_number}
 use Rattle.scx_sched_machine.specs.Cycle.{cycle}

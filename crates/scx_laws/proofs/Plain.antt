@@ -10,7 +10,7 @@ use Rattle.scx_sched_world.specs.Ids.{local_on}
 use Rattle.scx_sched_world.specs.World as world
 use Rattle.scx_sched_world.specs.World.{WorldState, with_task, task_at, with_switch, switch_at, with_waker, with_slept, is_idle, choice, after_claim, cycling_by_linux, running}
 use Rattle.scx_sched_world.specs.Tasks.{with_home, homed, after_switch}
-use Rattle.scx_sched_machine.specs.Policy.{program_of}
+use Rattle.scx_sched_policy.specs.Policy.{program_of}
 use Rattle.scx_sched_machine.specs.Steps.{State, Stepped, stays, with_world, one_after_other, is_by_linux, kicked, kicked_if_idle}
 use Rattle.scx_sched_machine.specs.Callbacks.{call_back, call_by_linux, one_task, two_numbers}
 use Rattle.scx_sched_machine.specs.Custody.{tells_each, moved_as, hears_dequeue, tells_left, tells_dequeued, tells_dequeued_if}

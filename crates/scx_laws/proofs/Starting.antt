@@ -13,7 +13,7 @@ use Rattle.scx_vm.specs.declared.arguments.Args.{Args}
 use Rattle.scx_sched_world.specs.declared.eject.Cause.{Cause}
 use Rattle.scx_sched_world.specs.declared.eject.Cause.TheVariants as reason
 use Rattle.scx_sched_world.specs.World.{WorldState, at_callback}
-use Rattle.scx_sched_machine.specs.Policy.{program_of}
+use Rattle.scx_sched_policy.specs.Policy.{program_of}
 use Rattle.scx_sched_machine.specs.Steps.{State, CallMade, is_by_linux}
 use Rattle.scx_sched_machine.specs.Callbacks.{acting, after_callback, AreAnswered, no_arguments, one_task, task_and_number, two_numbers}
 use Rattle.scx_sched_machine.specs.Start.{is_nowhere, is_bad_shape, blank, init_ending, bad_answer, ok_unless, after_init, begin_ending, failure, begin_with, has_by_linux, begin_by_linux, enable, then_weigh, then_enable, after_enables, then_idle, after_idles, unmarked, all_idle, then_all_idle, all_enabled, init_calls, begin_calls, begin_calls_by_linux, weigh_calls, enable_calls, calls_below, idle_calls, idle_calls_below, calls_after_enables, calls_after_init}

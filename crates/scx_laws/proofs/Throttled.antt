@@ -22,7 +22,7 @@ use Rattle.scx_sched_world.specs.Tasks.{after_stop, after_tick, used_ms, later, 
 use Rattle.scx_sched_machine.specs.declared.events.Event.{Event}
 use Rattle.scx_sched_machine.specs.declared.events.Event.TheVariants.{Tick}
 use Rattle.scx_sched_machine.specs.declared.events.Refused.{Refused}
-use Rattle.scx_sched_machine.specs.Policy.{PolicyState}
+use Rattle.scx_sched_policy.specs.Policy.{PolicyState}
 use Rattle.scx_sched_machine.specs.Steps.{State, Stepped, with_world, stays}
 use Rattle.scx_sched_machine.specs.Callbacks.{acting}
 use Rattle.scx_sched_machine.specs.Cycle.{cycle}

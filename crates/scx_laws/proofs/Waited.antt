@@ -38,7 +38,7 @@ use Rattle.scx_sched_machine.specs.declared.events.Event.{Event}
 use Rattle.scx_sched_machine.specs.declared.events.Event.TheVariants.{Wake, Sleep, Tick, Clock, SetWeight, SetTaskWeight}
 use Rattle.scx_sched_machine.specs.declared.events.Refused.{Refused}
 use Rattle.scx_sched_machine.specs.declared.events.Refused.TheVariants.{RunOver, UnknownCpu}
-use Rattle.scx_sched_machine.specs.Policy.{PolicyState, program_of}
+use Rattle.scx_sched_policy.specs.Policy.{PolicyState, program_of}
 use Rattle.scx_sched_machine.specs.Start.{is_bad_shape, is_nowhere, by_policy, first_state}
 use Rattle.scx_sched_machine.specs.Steps.{State, Stepped, with_world, stays, is_by_linux, kicked_if_idle}
 use Rattle.scx_sched_machine.specs.Callbacks.{acting, call_back, answered_by, task_cpu_and_0, task_and_number}

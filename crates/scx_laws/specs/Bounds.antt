@@ -9,7 +9,7 @@ use Rattle.scx_sched_world.specs.World.{wait}
 use Rattle.scx_sched_world.specs.Tasks.{tick_ns}
 use Rattle.scx_sched_machine.specs.declared.events.Event.{Event}
 use Rattle.scx_sched_machine.specs.declared.events.Event.TheVariants.{Tick, Clock}
-use Rattle.scx_sched_machine.specs.Policy.{PolicyState, program_of}
+use Rattle.scx_sched_policy.specs.Policy.{PolicyState, program_of}
 use Rattle.scx_sched.specs.Sim.{SimState}
 use Rattle.scx_laws.specs.Runs.{IsBegun, after_events}
 use Rattle.scx_laws.specs.Lines.{IsLine}

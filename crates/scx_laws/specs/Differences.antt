@@ -10,7 +10,7 @@ use Rattle.scx_sched_world.specs.CpuSets.{but_cpu}
 use Rattle.scx_sched_world.specs.World as world
 use Rattle.scx_sched_world.specs.World.{WorldState, nothing_passes, with_slept, with_waker, with_task, task_at, running, is_idle}
 use Rattle.scx_sched_world.specs.Tasks.{with_home, local_len, after_switch}
-use Rattle.scx_sched_machine.specs.Policy.{program_of}
+use Rattle.scx_sched_policy.specs.Policy.{program_of}
 use Rattle.scx_sched_machine.specs.Steps.{State, Stepped, with_world, stays, is_by_linux, kicked}
 use Rattle.scx_sched_machine.specs.Callbacks.{call_back, one_task}
 

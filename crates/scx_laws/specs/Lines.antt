@@ -27,7 +27,7 @@ use Rattle.scx_sched_world.specs.World.{WorldState, is_by_linux, running}
 use Rattle.scx_sched_world.specs.Helpers.{has_preempt, arrival_rank, after_create_dsq, create_answer, after_insert, choice_answer, after_choice, idle_answer, after_idle}
 use Rattle.scx_sched_machine.specs.declared.events.Event.{Event}
 use Rattle.scx_sched_machine.specs.declared.events.Event.TheVariants.{Sleep}
-use Rattle.scx_sched_machine.specs.Policy.{PolicyState, program_of}
+use Rattle.scx_sched_policy.specs.Policy.{PolicyState, program_of}
 use Rattle.scx_sched_machine.specs.Callbacks.{call_ending, task_cpu_and_0, task_and_number}
 use Rattle.scx_sched.specs.Sim.{SimState, refusal, after_event}
 use Rattle.scx_laws.specs.Runs.{IsBegun, after_events}

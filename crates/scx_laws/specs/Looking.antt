@@ -7,7 +7,7 @@ use Rattle.scx_weights.specs.Limits.{has_quota}
 use Rattle.scx_sched_world.specs.Ids.{global}
 use Rattle.scx_sched_world.specs.World.{WorldState, running}
 use Rattle.scx_sched_world.specs.Tasks.{local_len, next_for}
-use Rattle.scx_sched_machine.specs.Policy.{PolicyState, program_of}
+use Rattle.scx_sched_policy.specs.Policy.{PolicyState, program_of}
 use Rattle.scx_sched_machine.specs.Steps.{State}
 use Rattle.scx_sched_machine.specs.Cycle.{cycle}
 use Rattle.scx_sched_machine.specs.Rounds.{round}

@@ -25,7 +25,7 @@ use Rattle.scx_sched_world.specs.Tasks.{local_len, next_for}
 use Rattle.scx_sched_world.specs.Helpers.{can_move, after_move}
 use Rattle.scx_sched_machine.specs.declared.events.Event.{Event}
 use Rattle.scx_sched_machine.specs.declared.events.Event.TheVariants.{Sleep, Tick}
-use Rattle.scx_sched_machine.specs.Policy.{PolicyState, program_of}
+use Rattle.scx_sched_policy.specs.Policy.{PolicyState, program_of}
 use Rattle.scx_sched_machine.specs.Steps.{State, is_by_linux}
 use Rattle.scx_sched_machine.specs.Callbacks.{call_ending}
 use Rattle.scx_sched_machine.specs.Events as machine

@@ -14,7 +14,7 @@ use Rattle.scx_sched_world.specs.declared.eject.Cause.TheVariants as reason
 use Rattle.scx_sched_world.specs.World.{WorldState, without_marks, task_at, at_callback}
 use Rattle.scx_sched_world.specs.First.{first_world}
 use Rattle.scx_sched_world.specs.Tasks.{with_home, begun_periods}
-use Rattle.scx_sched_machine.specs.Policy.{PolicyState, program_of}
+use Rattle.scx_sched_policy.specs.Policy.{PolicyState, program_of}
 use Rattle.scx_sched_machine.specs.Steps.{State, with_world, is_by_linux}
 use Rattle.scx_sched_machine.specs.Callbacks.{acting, after_callback, no_arguments, one_task, task_and_number, two_numbers}
 use Rattle.scx_sched_machine.specs.Start.{by_policy, blank, fault_answer}

@@ -6,7 +6,7 @@ use Rattle.scx_isa_semantics.specs.Code.{Code}
 use Rattle.scx_isa_semantics.specs.declared.callbacks.Callback.{Callback}
 use Rattle.scx_isa_semantics.specs.Callbacks.{at, earlier, Made, MadeEach, Failed, FirstFailed}
 use Rattle.scx_vm.specs.Programs.{VerifiedProgram}
-use Rattle.scx_sched_machine.specs.Policy.{Programs}
+use Rattle.scx_sched_policy.specs.Policy.{Programs}
 use Rattle.scx_load_policies.specs.declared.building.BuildError.{BuildError}
 use Rattle.scx_load_policies.specs.declared.building.BuildError.TheVariants as errors
 use Rattle.scx_load_policies.specs.Policies.{PolicyFile, program_of}

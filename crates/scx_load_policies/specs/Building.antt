@@ -11,8 +11,8 @@ use Rattle.scx_verify.specs.declared.faults.Fault.TheVariants.{NoMemory}
 use Rattle.scx_vm.specs.Programs.{VerifiedProgram, context, by_rules}
 use Rattle.scx_verify.specs.Typing.{IsTyped}
 use Rattle.scx_verify.specs.Faults.{IsRefusal}
-use Rattle.scx_sched_machine.specs.Policy as machine
-use Rattle.scx_sched_machine.specs.Policy.{Programs, PolicyState}
+use Rattle.scx_sched_policy.specs.Policy as machine
+use Rattle.scx_sched_policy.specs.Policy.{Programs, PolicyState}
 use Rattle.scx_load_policies.specs.declared.building.BuildError.{BuildError}
 use Rattle.scx_load_policies.specs.declared.building.BuildError.TheVariants as errors
 use Rattle.scx_load_policies.specs.Policies.{PolicyFile, program_of}

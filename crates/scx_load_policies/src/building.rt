@@ -3,7 +3,7 @@ ghost use Rattle.scx_load_policies.specs.Building.{IsBuilt, IsFirstRefused, AreV
 
 use crate::policy_text::PolicyText;
 use scx_isa::{Callback, Program};
-use scx_sched_machine::{Callbacks, Policy};
+use scx_sched_policy::{Callbacks, Policy};
 use scx_verify::{Fault, Verified, verify_by};
 use scx_vm::Context;
 use std::alloc::Global;

@@ -1,6 +1,6 @@
 ghost use Rattle.std.specs.Prelude.{◌≡◌, ◌≤◌, map, string_bytes};
 ghost use Rattle.scx_isa_semantics.specs.declared.rules.Rules.TheVariants.{Plain, Linux};
-ghost use Rattle.scx_sched_machine.specs.Policy.{IsTimeout};
+ghost use Rattle.scx_sched_policy.specs.Policy.{IsTimeout};
 ghost use Rattle.scx_load_policies.specs.Policies.{IsTick, max_timers, callback_keys, program_of, without};
 ghost use Rattle.scx_load_policies.specs.Reading.{file_keys, map_keys};
 
@@ -26,7 +26,7 @@ pub struct PolicyText {
 
 impl Model for PolicyText {
     ghost use Rattle.std.specs.Prelude.{◌≤◌, string_bytes};
-    ghost use Rattle.scx_sched_machine.specs.Policy.{IsTimeout};
+    ghost use Rattle.scx_sched_policy.specs.Policy.{IsTimeout};
     ghost use Rattle.scx_load_policies.specs.Policies.{PolicyFile, IsTick, max_timers};
 
     ghost Value = { PolicyFile };

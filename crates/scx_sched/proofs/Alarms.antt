@@ -16,7 +16,7 @@ use Rattle.scx_sched_world.specs.World.{WorldState, are_linux, with_tree, with_t
 use Rattle.scx_sched_world.specs.Tasks.{used_ms, later, begun_periods}
 use Rattle.scx_sched_world.specs.Helpers.{with_timer, alarm_at, due_now, after_fire}
 use Rattle.scx_sched_machine.specs.declared.events.Event.{Event}
-use Rattle.scx_sched_machine.specs.Policy.{PolicyState}
+use Rattle.scx_sched_policy.specs.Policy.{PolicyState}
 use Rattle.scx_sched_machine.specs.Start.{is_bad_shape, first_state}
 use Rattle.scx_sched_machine.specs.Steps.{State, with_world, is_by_linux}
 use Rattle.scx_sched_machine.specs.Callbacks.{call_by_linux, one_number}

@@ -9,7 +9,7 @@ use Rattle.scx_vm.specs.Programs.{VerifiedProgram}
 use Rattle.scx_weights.specs.Hierarchy.{Hierarchy, own_weight}
 use Rattle.scx_sched_world.specs.World.{WorldState, without_marks, at_callback}
 use Rattle.scx_sched_world.specs.Tasks.{begun_periods}
-use Rattle.scx_sched_machine.specs.Policy.{PolicyState}
+use Rattle.scx_sched_policy.specs.Policy.{PolicyState}
 use Rattle.scx_sched_machine.specs.Steps.{State, with_world}
 use Rattle.scx_sched_machine.specs.Callbacks.{call_ending, acting, after_callback, no_arguments, one_task, task_and_number, two_numbers}
 use Rattle.scx_sched_machine.specs.Start.{blank, init_ending, bad_answer, ok_unless, after_init, begin_ending, failure, begin_with, has_by_linux, begin_by_linux, enable, then_weigh, then_enable, after_enables, then_idle, after_idles, unmarked, all_idle, then_all_idle, all_enabled, first_state, by_policy}

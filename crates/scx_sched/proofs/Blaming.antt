@@ -30,7 +30,7 @@ use Rattle.scx_sched_world.specs.World.{WorldState, are_linux, with_kick, withou
 use Rattle.scx_sched_world.specs.Tasks.{to_front, homed, after_run, after_switch, after_cut_off, with_since, after_wake, after_sleep, after_leave, after_enter, for_cpu, fill_front, after_fill, after_stop, started_at, after_keep, put_parked, let_go, after_tick, used_ms, after_reweigh, after_own_weight}
 use Rattle.scx_sched_world.specs.Helpers.{alarm_at, due_now, after_fire}
 use Rattle.scx_sched_world.specs.Ejecting.{eject_of, put_builtin, after_charge, after_catch_up}
-use Rattle.scx_sched_machine.specs.Policy.{program_of}
+use Rattle.scx_sched_policy.specs.Policy.{program_of}
 use Rattle.scx_sched_machine.specs.Steps.{State, CallMade, Stepped, with_world, stays, after, one_after_other, is_ejected, is_by_linux, kicked, kicked_if_idle}
 use Rattle.scx_sched_machine.specs.Ejecting.{moves_over, eject, ejected_for}
 use Rattle.scx_sched_machine.specs.Callbacks.{call_ending, after_callback, answer_fault, as_cause, cause_of, unless_ejected, acting, call_back, call_by_linux, answered_by, one_task, task_cpu_and_0, task_and_number, cpu_and_task, noted_by, one_number, two_numbers}

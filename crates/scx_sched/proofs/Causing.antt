@@ -22,7 +22,7 @@ use Rattle.scx_sched_world.specs.Waits.{first_overdue, IsFirstOverdue}
 use Rattle.scx_sched_world.specs.Ejecting.{eject_of}
 use Rattle.scx_sched_world.specs.Helpers.{world_functions}
 use Rattle.scx_sched_tasks.specs.Waits.{time_since}
-use Rattle.scx_sched_machine.specs.Policy.{PolicyState}
+use Rattle.scx_sched_policy.specs.Policy.{PolicyState}
 use Rattle.scx_sched_machine.specs.Steps.{State, CallMade, Stepped, with_world, stays, one_after_other}
 use Rattle.scx_sched_machine.specs.Ejecting.{eject}
 use Rattle.scx_sched_machine.specs.Callbacks.{call_ending, answer_fault, as_cause, or_cause, cause_of, IsAnswered, AreAnswered}

@@ -13,7 +13,7 @@ use Rattle.scx_sched_world.specs.declared.eject.Cause.TheVariants as reason
 use Rattle.scx_sched_world.specs.World.{WorldState, at_callback}
 use Rattle.scx_sched_machine.specs.declared.start.NewError.{NewError}
 use Rattle.scx_sched_machine.specs.declared.start.NewError.TheVariants.{InitFailed, BadShape, OutOfMemory}
-use Rattle.scx_sched_machine.specs.Policy.{PolicyState}
+use Rattle.scx_sched_policy.specs.Policy.{PolicyState}
 use Rattle.scx_sched_machine.specs.Steps.{State, CallMade}
 use Rattle.scx_sched_machine.specs.Callbacks.{acting, call_ending, calls_of, IsAnswered, AreAnswered, no_arguments, one_task, task_and_number, two_numbers}
 use Rattle.scx_sched_machine.specs.Start.{blank, cause_answer, bad_answer, ok_unless, after_init, failure, enable, then_enable, after_enables, all_enabled, first_state, IsRefusal, init_calls, enable_calls, calls_below, calls_after_init, start_calls, AreAnsweredBefore, begin_with, has_by_linux, begin_by_linux, then_weigh, then_idle, after_idles, unmarked, all_idle, then_all_idle, begin_calls, begin_calls_by_linux, weigh_calls, idle_calls, idle_calls_below, calls_after_enables}

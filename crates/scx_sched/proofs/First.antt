@@ -22,7 +22,7 @@ use Rattle.scx_sched_world.specs.World.{WorldState, is_this, at_callback, are_li
 use Rattle.scx_sched_tasks.specs.declared.task.Task.{Task}
 use Rattle.scx_sched_tasks.specs.Tasks.{no_task, new_task}
 use Rattle.scx_sched_world.specs.First.{first_world}
-use Rattle.scx_sched_machine.specs.Policy.{PolicyState}
+use Rattle.scx_sched_policy.specs.Policy.{PolicyState}
 use Rattle.scx_sched_machine.specs.Steps.{State}
 use Rattle.scx_sched_machine.specs.Callbacks.{call_ending, acting}
 use Rattle.scx_sched_machine.specs.Start.{is_bad_shape, first_state, by_policy, is_nowhere, blank}

@@ -17,7 +17,7 @@ use Rattle.scx_sched_world.specs.World as world
 use Rattle.scx_sched_world.specs.World.{WorldState, with_switch, task_at, is_throttled, running}
 use Rattle.scx_sched_world.specs.Tasks.{after_local, local_len, brought, after_stop, started_at, after_switch, after_keep, after_tick, used_ms, after_leave, next_for}
 use Rattle.scx_sched_machine.specs.Steps.{State, Stepped, with_world, stays, one_after_other, is_ejected, is_by_linux, kicked}
-use Rattle.scx_sched_machine.specs.Policy.{program_of}
+use Rattle.scx_sched_policy.specs.Policy.{program_of}
 use Rattle.scx_sched_machine.specs.Callbacks.{call_back, one_task}
 use Rattle.scx_sched_machine.specs.Filling.{fill}
 use Rattle.scx_sched_machine.specs.Parking.{park, throttled_front, park_next, clear, in_reach, supply}

@@ -30,7 +30,7 @@ use Rattle.scx_sched_world.specs.World.{WorldState, are_linux, with_queues, at_c
 use Rattle.scx_sched_world.specs.Ejecting.{eject_of}
 use Rattle.scx_sched_world.specs.Tasks.{rank_by, after_local, after_leave, after_enter, queue_for, for_cpu, next_for}
 use Rattle.scx_sched_world.specs.Helpers.{is_dispatch, queue_fault, insert_fault, after_release, insert_or_fault, with_insert, is_held, helper_after, world_functions, moved_to_local}
-use Rattle.scx_sched_machine.specs.Policy.{program_of}
+use Rattle.scx_sched_policy.specs.Policy.{program_of}
 use Rattle.scx_sched_machine.specs.Steps.{State, CallMade, Stepped, stays, one_after_other, is_by_linux}
 use Rattle.scx_sched_machine.specs.Ejecting.{eject, ejected_for}
 use Rattle.scx_sched_machine.specs.Callbacks.{call_ending, calls_of, acting, after_callback, cause_of, call_back, call_by_linux, noted_by, task_and_number, cpu_and_task}

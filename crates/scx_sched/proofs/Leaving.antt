@@ -11,7 +11,7 @@ use Rattle.scx_sched_world.specs.Ids.{builtin_queue, local_on}
 use Rattle.scx_sched_world.specs.World.{WorldState, are_linux, at_callback, quiet}
 use Rattle.scx_sched_world.specs.Tasks.{local_len, to_front, after_stop}
 use Rattle.scx_sched_world.specs.Ejecting.{builtin_vtime, put_builtin, after_charge}
-use Rattle.scx_sched_machine.specs.Policy.{program_of}
+use Rattle.scx_sched_policy.specs.Policy.{program_of}
 use Rattle.scx_sched_machine.specs.Steps.{State, Stepped, with_world, stays, one_after_other, is_ejected, is_by_linux}
 use Rattle.scx_sched_machine.specs.Ejecting.{ejected_for}
 use Rattle.scx_sched_machine.specs.Callbacks.{call_ending, calls_of, after_callback, cause_of, unless_ejected, acting, call_back, task_and_number}

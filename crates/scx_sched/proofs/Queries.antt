@@ -42,7 +42,7 @@ use Rattle.scx_sched_world.specs.World.{WorldState, with_queues, with_kick, with
 use Rattle.scx_sched_world.specs.Tasks.{with_builtin, with_slice, rank_by, given_vtime, task_after_insert, after_leave, after_enter, for_cpu, brought, next_for}
 use Rattle.scx_sched_world.specs.Helpers.{first_cause, with_cause, is_dispatch, with_insert, with_move, insert_fault, after_release, insert_or_fault, moved_to_local, kicked_so, helper_after, stored_in, with_timer, alarm_in, next_random, world_functions}
 use Rattle.scx_sched_world.specs.Ejecting.{eject_of, put_out, builtin_vtime, put_builtin, evict, after_evictions, after_cut, cut_task}
-use Rattle.scx_sched_machine.specs.Policy.{program_of}
+use Rattle.scx_sched_policy.specs.Policy.{program_of}
 use Rattle.scx_sched_machine.specs.Steps.{State, Stepped, stays}
 use Rattle.scx_sched_machine.specs.Steps as steps
 use Rattle.scx_sched_machine.specs.Ejecting.{moves_over, eject, ejected_for}

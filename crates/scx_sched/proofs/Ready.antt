@@ -13,7 +13,7 @@ use Rattle.scx_sched_world.specs.World.{WorldState, are_linux, task_at, at_callb
 use Rattle.scx_sched_world.specs.Tasks.{to_front, after_stop}
 use Rattle.scx_sched_world.specs.Ejecting.{after_charge}
 use Rattle.scx_sched_world.specs.Helpers.{is_dispatch}
-use Rattle.scx_sched_machine.specs.Policy.{program_of}
+use Rattle.scx_sched_policy.specs.Policy.{program_of}
 use Rattle.scx_sched_machine.specs.Steps.{State, Stepped, with_world, stays, is_ejected, is_by_linux}
 use Rattle.scx_sched_machine.specs.Ejecting.{eject, ejected_for}
 use Rattle.scx_sched_machine.specs.Callbacks.{call_ending, acting, after_callback, cause_of, call_back, task_and_number, call_by_linux, two_numbers}

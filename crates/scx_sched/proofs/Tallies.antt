@@ -21,7 +21,7 @@ use Rattle.scx_sched_world.specs.World.{WorldState, with_queues, with_tree, with
 use Rattle.scx_sched_world.specs.Tasks.{tick_ns, ran_a_tick, after_tick, used_ms, begun_periods}
 use Rattle.scx_sched_machine.specs.declared.events.Event.{Event}
 use Rattle.scx_sched_machine.specs.declared.events.Event.TheVariants.{Wake, Sleep, Clock, SetWeight, SetTaskWeight}
-use Rattle.scx_sched_machine.specs.Policy.{PolicyState}
+use Rattle.scx_sched_policy.specs.Policy.{PolicyState}
 use Rattle.scx_sched_machine.specs.Start.{is_bad_shape, first_state, by_policy}
 use Rattle.scx_sched_machine.specs.Steps.{State}
 use Rattle.scx_sched_machine.specs.Events.{refusal, tick_idle, tick_of, tick, own_step, event_step}

@@ -9,7 +9,7 @@ use Rattle.scx_sched_world.specs.World.{WorldState, with_task, task_at, with_tre
 use Rattle.scx_sched_world.specs.Tasks.{with_since, after_leave, used_ms, later, begun_periods}
 use Rattle.scx_sched_world.specs.Waits.{first_overdue}
 use Rattle.scx_sched_machine.specs.declared.events.Event.{Event}
-use Rattle.scx_sched_machine.specs.Policy.{PolicyState}
+use Rattle.scx_sched_policy.specs.Policy.{PolicyState}
 use Rattle.scx_sched_machine.specs.Steps.{State, with_world}
 use Rattle.scx_sched_machine.specs.Parking.{let_all_go}
 use Rattle.scx_sched_machine.specs.Ejecting.{eject}

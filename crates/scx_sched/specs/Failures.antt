@@ -9,7 +9,7 @@ use Rattle.scx_sched_world.specs.declared.faults.Fault.{Fault}
 use Rattle.scx_sched_world.specs.World.{WorldState}
 use Rattle.scx_sched_machine.specs.declared.start.NewError.{NewError}
 use Rattle.scx_sched_machine.specs.declared.start.NewError.TheVariants.{InitFailed, BadShape, OutOfMemory}
-use Rattle.scx_sched_machine.specs.Policy.{PolicyState}
+use Rattle.scx_sched_policy.specs.Policy.{PolicyState}
 use Rattle.scx_sched_machine.specs.Steps.{CallMade}
 use Rattle.scx_sched_machine.specs.Start.{fault_answer, start_calls}
 use Rattle.scx_sched.specs.Causes.{EndsIn, HasFault, HasExit, IsLast, IsAmong}

@@ -8,7 +8,7 @@ use Rattle.scx_sched_machine.specs.declared.events.Event.{Event}
 use Rattle.scx_sched_machine.specs.declared.events.Refused.{Refused}
 use Rattle.scx_sched_machine.specs.declared.events.Refused.TheVariants.{RunOver}
 use Rattle.scx_weights.specs.Hierarchy.{Hierarchy}
-use Rattle.scx_sched_machine.specs.Policy.{PolicyState, IsTimeout, AreAs}
+use Rattle.scx_sched_policy.specs.Policy.{PolicyState, IsTimeout, AreAs}
 use Rattle.scx_sched_machine.specs.Steps.{State, CallMade}
 use Rattle.scx_sched_machine.specs.Start.{first_state}
 use Rattle.scx_sched_machine.specs.Budgets.{start_pushes, event_pushes}

@@ -25,8 +25,7 @@ pub use laws::{
     nothing_is_left_behind,
 };
 pub use places::Place;
-pub use scx_sched_machine::{
-    BadPolicy, Callbacks, Event, Hearer, NewError, Policy, Refused, Sink, Unseen,
-};
+pub use scx_sched_machine::{Event, Hearer, NewError, Refused, Sink, Unseen};
+pub use scx_sched_policy::{BadPolicy, Callbacks, Policy};
 pub use scx_sched_world::{Eject, Entry, Fault, Note, Rank, What};
 pub use sim::{MAX_EVENTS, Sim};

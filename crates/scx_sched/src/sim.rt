@@ -5,7 +5,7 @@ ghost use Rattle.scx_sched_world.specs.World.{nothing_passes, task_at, is_runnab
 ghost use Rattle.scx_sched_machine.specs.Hearing.{Hears};
 ghost use Rattle.scx_sched_machine.specs.Notes.{Takes};
 ghost use Rattle.scx_sched_machine.specs.Callbacks.{AreAnswered};
-ghost use Rattle.scx_sched_machine.specs.Policy.{IsTimeout, AreAs};
+ghost use Rattle.scx_sched_policy.specs.Policy.{IsTimeout, AreAs};
 ghost use Rattle.scx_sched_machine.specs.Steps.{is_by_linux};
 ghost use Rattle.scx_sched_world.specs.Tasks.{tick_ns};
 ghost use Rattle.scx_sched_machine.specs.Quiet.{IsQuiet};
@@ -27,7 +27,8 @@ ghost use Rattle.scx_sched.specs.Sim.{max_events, refusal, answer_of, after_even
 
 use crate::places::{Place, place_in};
 use scx_maps::Maps;
-use scx_sched_machine::{Event, Hearer, Machine, NewError, Policy, Refused, Sink, Unseen};
+use scx_sched_machine::{Event, Hearer, Machine, NewError, Refused, Sink, Unseen};
+use scx_sched_policy::Policy;
 use scx_sched_world::{Eject, Entry, World};
 use scx_weights::Tree;
 use std::alloc::{AllocError, Global};

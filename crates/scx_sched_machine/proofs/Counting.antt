@@ -7,7 +7,7 @@ use Rattle.scx_sched_world.specs.World.{WorldState, with_tree, task_at, is_throt
 use Rattle.scx_sched_world.specs.Tasks.{after_tick, used_ms, slice_left}
 use Rattle.scx_sched_machine.specs.Steps.{State, Stepped, with_world, stays, one_after_other, is_by_linux}
 use Rattle.scx_sched_machine.specs.Callbacks.{call_back, one_task}
-use Rattle.scx_sched_machine.specs.Policy.{program_of}
+use Rattle.scx_sched_policy.specs.Policy.{program_of}
 use Rattle.scx_sched_machine.specs.Events.{throttle, expire, use_up, is_tick_time, hears_tick, tick_heard, count_down}
 use Rattle.scx_sched_machine.proofs.Choices.{keeps_if}
 

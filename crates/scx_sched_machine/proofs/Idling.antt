@@ -20,19 +20,19 @@ use Rattle.scx_sched_world.specs.World.{WorldState, are_linux, with_switch, cycl
 use Rattle.scx_sched_world.specs.Tasks.{local_len, next_for}
 use Rattle.scx_sched_world.specs.declared.notes.Note.{Note}
 use Rattle.scx_sched_world.specs.Helpers.{is_there, world_functions}
-use Rattle.scx_sched_machine.specs.Policy.{program_of}
+use Rattle.scx_sched_policy.specs.Policy.{program_of}
 use Rattle.scx_sched_machine.specs.Steps.{State, CallMade, Stepped, with_world, is_ejected, is_by_linux, kicked, stays, one_after_other}
 use Rattle.scx_sched_machine.specs.Ejecting.{ejected_for}
 use Rattle.scx_sched_machine.specs.Callbacks.{unless_ejected, acting, call_ending, after_callback, calls_of, cause_of, call_back, noted_by, cpu_and_task, IsAnswered, AreAnswered}
 use Rattle.scx_sched_machine.specs.Hearing.{Hears, Untold}
 use Rattle.scx_sched_machine.specs.Does.{Goes}
-use Rattle.scx_sched_machine.specs.Vain.{vain_queues, nobody_in, asked_in, in_vain, RunsInVain}
+use Rattle.scx_sched_policy.specs.Vain.{vain_queues, nobody_in, asked_in, in_vain, RunsInVain}
 use Rattle.scx_sched_machine.specs.Custody.{moved_as, hears_dequeue, tells_left}
 use Rattle.scx_sched_machine.specs.Parking.{supply}
 use Rattle.scx_sched_machine.specs.Cycle.{has_local, dispatch_called, after_dispatch, supply_unless_kept, told_of, asks_again, tries, rest, builtin_cycle, pick, pick_or_rest, keep_or_pick, conclude, give_up, ask, seek, look, cycling, stays_idle, idles, falls_idle, concluded, cycle}
 use Rattle.scx_sched_machine.proofs.Choices.{keeps_if}
 use Rattle.scx_sched_machine.proofs.Free.{supply_nobody}
-use Rattle.scx_sched_machine.proofs.InVain.{only_asks}
+use Rattle.scx_sched_policy.proofs.InVain.{only_asks}
 use Rattle.scx_sched_machine.proofs.Leaving.{then_stays}
 use Rattle.scx_sched_machine.proofs.Tries.{tries_last}
 

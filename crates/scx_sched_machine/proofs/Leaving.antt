@@ -14,7 +14,7 @@ use Rattle.scx_sched_world.specs.World as world
 use Rattle.scx_sched_world.specs.World.{WorldState, are_linux, quiet, at_callback}
 use Rattle.scx_sched_world.specs.Tasks.{after_leave}
 use Rattle.scx_sched_world.specs.Ejecting.{eject_of}
-use Rattle.scx_sched_machine.specs.Policy.{PolicyState, program_of}
+use Rattle.scx_sched_policy.specs.Policy.{PolicyState, program_of}
 use Rattle.scx_sched_machine.specs.Steps.{State, Stepped, with_world, stays, one_after_other, is_by_linux}
 use Rattle.scx_sched_machine.specs.Budgets.{eject_pushes, eject_left, pushes_due}
 use Rattle.scx_sched_machine.specs.Ejecting.{moves_over, eject, ejected_for}

@@ -12,11 +12,9 @@ pub mod Leaving
 pub mod Parked
 pub mod Free
 pub mod Plainly
-pub mod InVain
 pub mod Idling
 pub mod Silent
 pub mod Counting
 pub mod Alarms
 pub mod Looking
 pub mod Quiet
-pub mod Copying

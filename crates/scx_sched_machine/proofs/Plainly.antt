@@ -12,7 +12,7 @@ use Rattle.scx_sched_world.specs.Tasks.{with_home, homed, after_stop, started_at
 use Rattle.scx_sched_world.specs.Ejecting.{after_charge}
 use Rattle.scx_sched_machine.specs.Steps.{State, Stepped, with_world, stays, after, one_after_other, is_ejected, is_by_linux, kicked, kicked_if_idle}
 use Rattle.scx_sched_machine.specs.Callbacks.{acting, call_back, call_by_linux, answered_by, task_cpu_and_0, task_and_number, two_numbers, cpu_and_task}
-use Rattle.scx_sched_machine.specs.Policy.{program_of}
+use Rattle.scx_sched_policy.specs.Policy.{program_of}
 use Rattle.scx_sched_machine.specs.Custody.{hears_dequeue}
 use Rattle.scx_sched_machine.specs.Put.{enters, enters_builtin, enqueue_choice, comes_in, put}
 use Rattle.scx_sched_machine.specs.Parking.{supply}

@@ -25,10 +25,10 @@ use Rattle.scx_sched_world.specs.Tasks.{local_len, next_for, tick_ns, ran_a_tick
 use Rattle.scx_sched_world.specs.Quiet.{ticked_for, SlicesLast, StaysCalm}
 use Rattle.scx_sched_world.proofs.Quiet.{calm_less, slices_less}
 use Rattle.scx_sched_machine.specs.declared.events.Event.TheVariants.{Tick, Clock}
-use Rattle.scx_sched_machine.specs.Policy.{program_of}
+use Rattle.scx_sched_policy.specs.Policy.{program_of}
 use Rattle.scx_sched_machine.specs.Steps.{State, CallMade, Stepped, with_world, stays, one_after_other, is_ejected, is_by_linux}
 use Rattle.scx_sched_machine.specs.Callbacks.{AreAnswered}
-use Rattle.scx_sched_machine.specs.Vain.{nobody_in, asked_in, in_vain}
+use Rattle.scx_sched_policy.specs.Vain.{nobody_in, asked_in, in_vain}
 use Rattle.scx_sched_machine.specs.Firing.{due, fires, fire, fire_below, fire_all}
 use Rattle.scx_sched_machine.specs.Parking.{let_all_go}
 use Rattle.scx_sched_machine.specs.Cycle.{stays_idle, cycling, idles, cycle}

@@ -20,7 +20,7 @@ use Rattle.scx_sched_world.specs.declared.faults.Fault.{Fault}
 use Rattle.scx_sched_world.specs.declared.faults.Fault.TheVariants.{Stuck, NoSuchCpu}
 use Rattle.scx_sched_world.specs.World.{WorldState, at_callback, quiet}
 use Rattle.scx_sched_world.specs.Helpers.{task_argument, world_functions}
-use Rattle.scx_sched_machine.specs.Policy.{PolicyState, program_of}
+use Rattle.scx_sched_policy.specs.Policy.{PolicyState, program_of}
 use Rattle.scx_sched_machine.specs.Steps.{State, CallMade, Stepped, stays, one_after_other, is_by_linux}
 use Rattle.scx_sched_machine.specs.Ejecting.{ejected_for}
 

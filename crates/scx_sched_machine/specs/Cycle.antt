@@ -14,8 +14,8 @@ use Rattle.scx_sched_world.specs.Ejecting.{after_catch_up, after_charge}
 use Rattle.scx_sched_machine.specs.Steps.{State, Stepped, with_world, stays, after, one_after_other, is_ejected, is_by_linux, kicked}
 use Rattle.scx_sched_machine.specs.Callbacks.{call_back, call_by_linux, noted_by, calls_of, one_task, task_and_number, two_numbers, cpu_and_task}
 use Rattle.scx_sched_machine.specs.Custody.{tells_left}
-use Rattle.scx_sched_machine.specs.Policy.{program_of}
-use Rattle.scx_sched_machine.specs.Vain.{asked_in, in_vain}
+use Rattle.scx_sched_policy.specs.Policy.{program_of}
+use Rattle.scx_sched_policy.specs.Vain.{asked_in, in_vain}
 use Rattle.scx_sched_machine.specs.Put.{enters, put}
 use Rattle.scx_sched_machine.specs.Filling.{fill}
 use Rattle.scx_sched_machine.specs.Parking.{park_next, supply}

@@ -1,10 +1,8 @@
 pub mod Notes
-pub mod Policy
 pub mod Steps
 pub mod Budgets
 pub mod Ejecting
 pub mod Callbacks
-pub mod Vain
 pub mod Hearing
 pub mod Does
 pub mod Put

@@ -7,7 +7,7 @@ use Rattle.scx_sched_world.specs.Ids.{parked_queue}
 use Rattle.scx_sched_world.specs.World.{running}
 use Rattle.scx_sched_world.specs.Quiet as world
 use Rattle.scx_sched_world.specs.Quiet.{SlicesLast, StaysCalm}
-use Rattle.scx_sched_machine.specs.Policy.{program_of}
+use Rattle.scx_sched_policy.specs.Policy.{program_of}
 use Rattle.scx_sched_machine.specs.Steps.{State, with_world, is_by_linux}
 use Rattle.scx_sched_machine.specs.Rounds.{next_to_look}
 use Rattle.scx_sched_machine.specs.Cycle.{stays_idle}

@@ -16,7 +16,7 @@ use Rattle.scx_sched_world.specs.First.{first_world, at_first_homes}
 use Rattle.scx_sched_world.specs.Tasks.{begun_periods}
 use Rattle.scx_sched_machine.specs.declared.start.NewError.{NewError}
 use Rattle.scx_sched_machine.specs.declared.start.NewError.TheVariants.{InitFailed, BadShape, OutOfMemory}
-use Rattle.scx_sched_machine.specs.Policy.{PolicyState, program_of, tracks_idle}
+use Rattle.scx_sched_policy.specs.Policy.{PolicyState, program_of, tracks_idle}
 use Rattle.scx_sched_machine.specs.Steps.{State, CallMade, with_world, is_by_linux}
 use Rattle.scx_sched_machine.specs.Callbacks.{acting, call_ending, calls_of, after_callback, AreAnswered, no_arguments, one_task, task_and_number, two_numbers}
 

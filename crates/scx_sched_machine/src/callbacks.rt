@@ -11,16 +11,16 @@ ghost use Rattle.scx_sched_machine.specs.Budgets.{CanPush, HasRoom, callback_pus
 ghost use Rattle.scx_sched_machine.specs.Does.{Goes};
 ghost use Rattle.scx_sched_machine.specs.Hearing.{Hears};
 ghost use Rattle.scx_sched_machine.specs.Notes.{Takes};
-ghost use Rattle.scx_sched_machine.specs.Policy.{IsAs, HasMaps, program_of};
+ghost use Rattle.scx_sched_policy.specs.Policy.{IsAs, HasMaps, program_of};
 ghost use Rattle.scx_sched_machine.specs.Ejecting.{ejected_for};
 ghost use Rattle.scx_sched_machine.specs.Custody.{ended};
 ghost use Rattle.scx_sched_machine.specs.Callbacks.{call_ending, call_back, call_by_linux, end_fault, as_cause, or_cause, unless_ejected, answered_by, calls_of, IsAnswered, AreAnswered, is_calm, one_task, task_cpu_and_0, task_and_number, one_number, two_numbers, task_or_0, cpu_and_task};
 
 use crate::machine::Machine;
-use crate::policy::Policy;
 use crate::sink::Hearer;
 use scx_isa::Callback;
 use scx_maps::Maps;
+use scx_sched_policy::Policy;
 use scx_sched_world::{Cause, Fault, World};
 use scx_verify::Verified;
 use scx_vm::{Arg, Args};

@@ -2,8 +2,8 @@ ghost use Rattle.std.specs.Prelude.{◌≡◌, ◌+◌, ◌*◌, true, false, No
 ghost use Rattle.scx_isa_semantics.specs.declared.callbacks.Callback.TheVariants.{Dispatch};
 ghost use Rattle.scx_sched_world.specs.Ids.{global};
 ghost use Rattle.scx_sched_machine.specs.Budgets.{HasRoom, ask_pushes, builtin_ask_pushes, builtin_cycle_pushes, builtin_dispatch_pushes, callback_pushes, cycle_pushes, dispatch_pushes, fill_pushes, leave_pushes, look_pushes, pick_pushes, supply_pushes, swap_pushes};
-ghost use Rattle.scx_sched_machine.specs.Policy.{program_of};
-ghost use Rattle.scx_sched_machine.specs.Vain.{asked_in, in_vain};
+ghost use Rattle.scx_sched_policy.specs.Policy.{program_of};
+ghost use Rattle.scx_sched_policy.specs.Vain.{asked_in, in_vain};
 ghost use Rattle.scx_sched_machine.specs.Does.{Goes};
 ghost use Rattle.scx_sched_machine.specs.Steps.{is_by_linux};
 ghost use Rattle.scx_sched_machine.specs.Filling.{fill};
@@ -13,8 +13,8 @@ ghost use Rattle.scx_sched_machine.specs.Hearing.{Untold};
 use crate::callbacks::cpu_and_task;
 use crate::machine::Machine;
 use crate::sink::Hearer;
-use crate::vain::nobody_in;
 use scx_isa::Callback;
+use scx_sched_policy::nobody_in;
 use scx_sched_world::{BUILTIN, LOCAL_ON, What};
 
 impl Machine {

@@ -3,8 +3,8 @@ ghost use Rattle.scx_sched_world.specs.World.{IsLike};
 ghost use Rattle.scx_sched_machine.specs.Steps.{is_by_linux, kicked, kicked_if_idle};
 ghost use Rattle.scx_sched_machine.specs.Cycle.{has_local, keeps_slice, told_of, moved_in_vain, asks_again};
 
-use crate::policy::Policy;
 use scx_maps::Maps;
+use scx_sched_policy::Policy;
 use scx_sched_world::World;
 use scx_vm_run::Core;
 use std::alloc::{AllocError, Global};

@@ -3,7 +3,7 @@ ghost use Rattle.std.specs.Prelude.{◌≡◌, ℕ, ◌+◌, ◌^◌, ◌&&◌, 
 ghost use Rattle.scx_isa_semantics.specs.declared.callbacks.Callback.TheVariants.{Tick};
 ghost use Rattle.scx_weights.specs.Limits.{usage_of};
 ghost use Rattle.scx_sched_world.specs.World.{task_at};
-ghost use Rattle.scx_sched_machine.specs.Policy.{program_of};
+ghost use Rattle.scx_sched_policy.specs.Policy.{program_of};
 ghost use Rattle.scx_sched_machine.specs.Steps.{is_by_linux};
 ghost use Rattle.scx_sched_machine.specs.Quiet.{FindsNone, IsAtRest, IsQuiet, skipped};
 

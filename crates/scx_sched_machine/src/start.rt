@@ -5,7 +5,7 @@ ghost use Rattle.scx_vm.specs.Arguments.{program_arguments};
 ghost use Rattle.scx_weights.specs.Counting.{any_below};
 ghost use Rattle.scx_weights.specs.Hierarchy.{is_active_task, is_in_mask};
 ghost use Rattle.scx_sched_machine.specs.declared.start.NewError.TheVariants.{OutOfMemory};
-ghost use Rattle.scx_sched_machine.specs.Policy.{IsTimeout, AreAs};
+ghost use Rattle.scx_sched_policy.specs.Policy.{IsTimeout, AreAs};
 ghost use Rattle.scx_sched_machine.specs.Budgets.{HasRoom, enable_pushes, idle_pushes, program_pushes, start_pushes};
 ghost use Rattle.scx_sched_machine.specs.Callbacks.{AreAnswered, one_task};
 ghost use Rattle.scx_sched_machine.specs.Hearing.{Hears};
@@ -13,10 +13,10 @@ ghost use Rattle.scx_sched_machine.specs.Start.{is_nowhere, is_bad_shape, blank,
 
 use crate::callbacks::{one_task, run_callback, task_and_number, two_numbers};
 use crate::machine::Machine;
-use crate::policy::Policy;
 use crate::sink::Hearer;
 use scx_isa::Callback;
 use scx_maps::Maps;
+use scx_sched_policy::Policy;
 use scx_sched_world::{Cause, World};
 use scx_vm::Args;
 use scx_vm_run::Core;

@@ -1,5 +1,5 @@
 use Rattle.std.proofs.Common.{ap, ◌∙◌}
-use Rattle.scx_sched_machine.specs.Policy.{PolicyState}
+use Rattle.scx_sched_policy.specs.Policy.{PolicyState}
 use Rattle.scx_explore_states.proofs.Putting.{linux_parts}
 use Rattle.scx_explore_states.proofs.written.put_by_linux.Goals as goal
 

@@ -3,7 +3,7 @@ use Rattle.scx_maps.specs.declared.shape.Shape.{Shape}
 use Rattle.scx_maps.specs.Slots.{slots}
 use Rattle.scx_maps.specs.Contents.{kinds, HasShapes}
 use Rattle.scx_sched_world.specs.World.{IsLike}
-use Rattle.scx_sched_machine.specs.Policy.{PolicyState}
+use Rattle.scx_sched_policy.specs.Policy.{PolicyState}
 use Rattle.scx_sched_machine.specs.Steps.{State}
 use Rattle.scx_sched_machine.proofs.machine.Machine.copy_from.Goals as goal
 

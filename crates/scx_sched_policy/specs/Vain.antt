@@ -26,13 +26,13 @@ use Rattle.scx_vm.specs.Programs.{VerifiedProgram}
 use Rattle.scx_sched_world.specs.World.{WorldState}
 use Rattle.scx_sched_world.specs.Tasks.{next_for}
 use Rattle.scx_sched_world.specs.Helpers.{is_there, world_functions}
-use Rattle.scx_sched_machine.specs.declared.vain.Asked.{Asked}
-use Rattle.scx_sched_machine.specs.declared.vain.Asked.TheVariants.{Nothing, One, Two, Three}
-use Rattle.scx_sched_machine.specs.declared.vain.Known.{Known}
-use Rattle.scx_sched_machine.specs.declared.vain.Part.{Part}
-use Rattle.scx_sched_machine.specs.declared.vain.Part.TheVariants.{Sets, Jumps, Moves, Ends, Other}
-use Rattle.scx_sched_machine.specs.declared.vain.When.{When}
-use Rattle.scx_sched_machine.specs.declared.vain.When.TheVariants.{Always, OnZero, OnOther}
+use Rattle.scx_sched_policy.specs.declared.vain.Asked.{Asked}
+use Rattle.scx_sched_policy.specs.declared.vain.Asked.TheVariants.{Nothing, One, Two, Three}
+use Rattle.scx_sched_policy.specs.declared.vain.Known.{Known}
+use Rattle.scx_sched_policy.specs.declared.vain.Part.{Part}
+use Rattle.scx_sched_policy.specs.declared.vain.Part.TheVariants.{Sets, Jumps, Moves, Ends, Other}
+use Rattle.scx_sched_policy.specs.declared.vain.When.{When}
+use Rattle.scx_sched_policy.specs.declared.vain.When.TheVariants.{Always, OnZero, OnOther}
 
 -- ---- what an instruction is to a walk
 

@@ -1,7 +1,7 @@
 //! Programs of dispatch that do nothing but move tasks, and from which queues.
 ghost use Rattle.std.specs.Prelude.{◌≡◌, ◌≤◌, option_map, IfSome};
 ghost use Rattle.scx_isa_semantics.specs.HostTables.{helper_at};
-ghost use Rattle.scx_sched_machine.specs.Vain.{queues_in, one_more, both_known, sets, forward, test_of, tested, moved, called, part_of, known_after, jumped, walk, vain_queues, OnlyAsks, nobody_in};
+ghost use Rattle.scx_sched_policy.specs.Vain.{queues_in, one_more, both_known, sets, forward, test_of, tested, moved, called, part_of, known_after, jumped, walk, vain_queues, OnlyAsks, nobody_in};
 
 use scx_isa::{Comparison, Helper, Insn, Operand, Operation, Program, Register, Width};
 use scx_isa_semantics::{immediate, low, wide_immediate};
@@ -45,7 +45,7 @@ pub(crate) struct Known {
 
 /// The queues that a program asks for a task, one after another.
 #[derive(Clone, Copy)]
-pub(crate) enum Asked {
+pub enum Asked {
     Nothing,
     One(u64),
     Two(u64, u64),
@@ -266,7 +266,7 @@ fn walk_from_start(program: &Program) -> Option<Asked>
 
 /// True if all these queues of the policy are there, and no task waits in them that may run on the CPU.
 #[inline(always)]
-pub(crate) fn nobody_in(world: &World, cpu: u32, asked: Asked) -> bool
+pub fn nobody_in(world: &World, cpu: u32, asked: Asked) -> bool
     ensures { result ≡ nobody_in world.now cpu (queues_in asked) }
 {
     match asked {

@@ -1,8 +1,8 @@
 use Rattle.std.proofs.Common.{sym, ◌∙◌}
 use Rattle.std.proofs.lemmas.List.{at_drop_all}
 use Rattle.scx_isa_semantics.specs.Callbacks.{callbacks}
-use Rattle.scx_sched_machine.proofs.Copying.{copied, copied_more}
-use Rattle.scx_sched_machine.proofs.policy.set_duplicates.Goals as goal
+use Rattle.scx_sched_policy.proofs.Copying.{copied, copied_more}
+use Rattle.scx_sched_policy.proofs.policy.set_duplicates.Goals as goal
 
 pub loop-callback-preserved : goal.loop-callback-preserved
 loop-callback-preserved c =

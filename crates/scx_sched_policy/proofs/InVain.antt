@@ -39,13 +39,13 @@ use Rattle.scx_sched_world.specs.World.{WorldState}
 use Rattle.scx_sched_world.specs.Tasks.{next_for}
 use Rattle.scx_sched_world.specs.Helpers.{number_of, is_there, is_dispatch, can_move, move_answer, after_move, invalid, with_fault, one_if_some, moved_to_local, world_functions}
 use Rattle.scx_sched_world.specs.declared.faults.Fault.TheVariants.{NoSuchQueue}
-use Rattle.scx_sched_machine.specs.declared.vain.Asked.{Asked}
-use Rattle.scx_sched_machine.specs.declared.vain.Known.{Known}
-use Rattle.scx_sched_machine.specs.declared.vain.Part.{Part}
-use Rattle.scx_sched_machine.specs.declared.vain.Part.TheVariants.{Sets, Jumps, Moves, Ends, Other}
-use Rattle.scx_sched_machine.specs.declared.vain.When.{When}
-use Rattle.scx_sched_machine.specs.declared.vain.When.TheVariants.{Always, OnZero, OnOther}
-use Rattle.scx_sched_machine.specs.Vain.{queues_in, sets, forward, test_of, tested, moved_from, moved, called, part_of, nothing_known, asked_in_vain, known_after, jumped, one_more, both_known, on_from, walk_on, walk_at, walk, vain_queues, nobody_in, RunsInVain, OnlyAsks}
+use Rattle.scx_sched_policy.specs.declared.vain.Asked.{Asked}
+use Rattle.scx_sched_policy.specs.declared.vain.Known.{Known}
+use Rattle.scx_sched_policy.specs.declared.vain.Part.{Part}
+use Rattle.scx_sched_policy.specs.declared.vain.Part.TheVariants.{Sets, Jumps, Moves, Ends, Other}
+use Rattle.scx_sched_policy.specs.declared.vain.When.{When}
+use Rattle.scx_sched_policy.specs.declared.vain.When.TheVariants.{Always, OnZero, OnOther}
+use Rattle.scx_sched_policy.specs.Vain.{queues_in, sets, forward, test_of, tested, moved_from, moved, called, part_of, nothing_known, asked_in_vain, known_after, jumped, one_more, both_known, on_from, walk_on, walk_at, walk, vain_queues, nobody_in, RunsInVain, OnlyAsks}
 
 -- ---- what each part of a program does
 

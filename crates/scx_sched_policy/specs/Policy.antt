@@ -9,8 +9,8 @@ use Rattle.scx_isa_semantics.specs.declared.per_callback.PerCallback.{PerCallbac
 use Rattle.scx_isa_semantics.specs.Callbacks.{at}
 use Rattle.scx_vm.specs.Programs.{VerifiedProgram}
 use Rattle.scx_sched_world.specs.World.{are_linux}
-use Rattle.scx_sched_machine.specs.declared.policy.BadPolicy.{BadPolicy}
-use Rattle.scx_sched_machine.specs.declared.policy.BadPolicy.TheVariants.{BadTimeout, OtherCallback, OtherMaps, OtherRules}
+use Rattle.scx_sched_policy.specs.declared.policy.BadPolicy.{BadPolicy}
+use Rattle.scx_sched_policy.specs.declared.policy.BadPolicy.TheVariants.{BadTimeout, OtherCallback, OtherMaps, OtherRules}
 
 -- the programs of a policy, one for each callback or none
 abbrev pub Programs : Type 0

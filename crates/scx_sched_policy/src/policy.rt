@@ -1,9 +1,9 @@
 ghost use Rattle.std.specs.Prelude.{◌≡◌, ◌↔◌, option_map, is_some, IsTrue, IfOk, OnOk, IfErr, None, IfSome};
-ghost use Rattle.scx_sched_machine.specs.Policy.{IsTimeout, IsAs, HasMaps, AreAs, HaveMaps, AreBy, IsFault, program_of, policy_of, policy_by, with_ticks, with_idle_kept, with_timers, with_seed, tracks_idle};
+ghost use Rattle.scx_sched_policy.specs.Policy.{IsTimeout, IsAs, HasMaps, AreAs, HaveMaps, AreBy, IsFault, program_of, policy_of, policy_by, with_ticks, with_idle_kept, with_timers, with_seed, tracks_idle};
 ghost use Rattle.scx_isa_semantics.specs.declared.rules.Rules.TheVariants.{Plain};
 ghost use Rattle.scx_isa_semantics.specs.declared.callbacks.Callback.TheVariants.{Dispatch};
 ghost use Rattle.scx_sched_world.specs.World.{are_linux};
-ghost use Rattle.scx_sched_machine.specs.Vain.{queues_in, asked_in};
+ghost use Rattle.scx_sched_policy.specs.Vain.{queues_in, asked_in};
 
 use crate::vain::{Asked, asked_by};
 use scx_isa::{CALLBACKS, Callback, PerCallback, Rules};
@@ -51,8 +51,8 @@ pub struct Policy {
 
 impl Model for Policy {
     ghost use Rattle.std.specs.Prelude.{◌≡◌, option_map};
-    ghost use Rattle.scx_sched_machine.specs.Policy.{PolicyState, IsTimeout, AreAs, HaveMaps, AreBy};
-    ghost use Rattle.scx_sched_machine.specs.Vain.{queues_in, asked_in};
+    ghost use Rattle.scx_sched_policy.specs.Policy.{PolicyState, IsTimeout, AreAs, HaveMaps, AreBy};
+    ghost use Rattle.scx_sched_policy.specs.Vain.{queues_in, asked_in};
 
     ghost Value = { PolicyState };
 
@@ -173,7 +173,7 @@ impl Policy {
     }
 
     /// The longest wait that the policy may let a task have, in milliseconds.
-    pub(crate) fn timeout_ms(&self) -> u64
+    pub fn timeout_ms(&self) -> u64
         ensures { result ≡ self.now.timeout_ms }
     {
         u64::from(self.timeout_ms)
@@ -216,7 +216,7 @@ impl Policy {
     }
 
     /// True if the host tracks idle CPUs: under Linux rules a policy with `update_idle` does so itself.
-    pub(crate) fn tracks_idle(&self) -> bool
+    pub fn tracks_idle(&self) -> bool
         ensures { result ≡ tracks_idle self.now }
     {
         self.keeps_idle || !(self.is_by_linux() && self.has_program(Callback::UpdateIdle))
@@ -233,7 +233,7 @@ impl Policy {
 
     /// The program of a callback.
     #[inline(always)]
-    pub(crate) fn program(&self, callback: Callback) -> Option<&Verified>
+    pub fn program(&self, callback: Callback) -> Option<&Verified>
         ensures program { option_map (λ p. p.now) result ≡ program_of self.now callback }
         ensures callback { IsAs callback (program_of self.now callback) }
         ensures maps { HasMaps self.now.shapes (program_of self.now callback) }
@@ -243,7 +243,7 @@ impl Policy {
 
     /// The queues that dispatch asks in vain, if it does nothing else.
     #[inline(always)]
-    pub(crate) fn asked(&self) -> Option<Asked>
+    pub fn asked(&self) -> Option<Asked>
         ensures { option_map queues_in result ≡ asked_in (program_of self.now Dispatch) }
     {
         self.asked
@@ -251,7 +251,7 @@ impl Policy {
 
     /// True if the callback has a program.
     #[inline(always)]
-    pub(crate) fn has_program(&self, callback: Callback) -> bool
+    pub fn has_program(&self, callback: Callback) -> bool
         ensures { result ≡ is_some (program_of self.now callback) }
     {
         self.program(callback).is_some()
@@ -301,8 +301,7 @@ fn duplicates_of(callbacks: &Callbacks, alloc: Global) -> Result<Callbacks, Allo
     ensures { IfOk result (λ copy. copy ≡ callbacks.now) }
 {
     let mut copies = PerCallback::none();
-    let outcome = set_duplicates(&mut copies, callbacks, alloc);
-    match outcome {
+    match set_duplicates(&mut copies, callbacks, alloc) {
         Ok(()) => Ok(copies),
         Err(error) => Err(error),
     }

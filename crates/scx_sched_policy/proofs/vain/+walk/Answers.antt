@@ -1,6 +1,6 @@
 use Rattle.std.proofs.Common.{arith, sym, ◌∙◌}
-use Rattle.scx_sched_machine.proofs.InVain.{walk_moves}
-use Rattle.scx_sched_machine.proofs.vain.+walk.Goals as goal
+use Rattle.scx_sched_policy.proofs.InVain.{walk_moves}
+use Rattle.scx_sched_policy.proofs.vain.+walk.Goals as goal
 
 pub returns-in-Moves : goal.returns-in-Moves
 returns-in-Moves t c =

@@ -1,0 +1,2 @@
+pub mod InVain
+pub mod Copying
