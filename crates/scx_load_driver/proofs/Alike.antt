@@ -16,7 +16,7 @@ use Rattle.scx_sched_world.specs.Ids.{global, builtin_queue, parked_queue, local
 use Rattle.scx_sched_world.specs.First.{first_world, with_homes_below, at_first_homes}
 use Rattle.scx_sched_world.specs.World.{WorldState, binds, with_switch, with_task, out_of_cycle, without_kick, task_at, is_throttled, is_idle, running, at_callback}
 use Rattle.scx_sched_world.specs.Tasks.{begun_periods, to_front, after_leave, for_cpu, fill_front, after_stop, started_at, after_run, after_keep, after_switch, after_cut_off, put_parked, let_go}
-use Rattle.scx_sched_machine.specs.Policy.{PolicyState}
+use Rattle.scx_sched_policy.specs.Policy.{PolicyState}
 use Rattle.scx_sched_world.specs.declared.eject.Eject.{Eject}
 use Rattle.scx_sched_world.specs.Ejecting.{after_charge, after_catch_up}
 use Rattle.scx_sched_machine.specs.Steps.{State, Stepped, one_after_other, stays, with_world, is_ejected, is_by_linux, kicked, kicked_if_idle}

@@ -4,7 +4,7 @@ use Rattle.std.proofs.Common.{◌≡◌, ℕ, zero, suc, ◌+◌, ◌*◌, ◌<�
 use Rattle.std.proofs.lemmas.List.{length-map}
 use Rattle.scx_sched_world.specs.World.{WorldState, is_runnable}
 use Rattle.scx_sched_machine.specs.declared.events.Event.TheVariants as event
-use Rattle.scx_sched_machine.specs.Policy.{PolicyState}
+use Rattle.scx_sched_policy.specs.Policy.{PolicyState}
 use Rattle.scx_sched_machine.specs.Start.{blank}
 use Rattle.scx_sched.specs.Sim.{SimState, max_events, IsFirstState}
 use Rattle.scx_load_workloads.specs.declared.workload.Timing.{Timing}

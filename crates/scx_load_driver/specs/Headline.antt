@@ -12,7 +12,7 @@ use Rattle.scx_sched_world.specs.declared.notes.Note.{Note}
 use Rattle.scx_sched_world.specs.World.{task_at, is_runnable, waits, wait}
 use Rattle.scx_sched_machine.specs.declared.events.Event.{Event}
 use Rattle.scx_sched_machine.specs.Notes.{Takes}
-use Rattle.scx_sched_machine.specs.Policy.{PolicyState}
+use Rattle.scx_sched_policy.specs.Policy.{PolicyState}
 use Rattle.scx_sched_machine.specs.Steps.{State, CallMade}
 use Rattle.scx_sched_machine.specs.Callbacks.{AreAnswered}
 use Rattle.scx_sched_machine.specs.Start.{first_state, start_calls}

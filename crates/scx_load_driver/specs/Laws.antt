@@ -1,5 +1,5 @@
 -- No event of a workload is refused.
-use Rattle.scx_sched_machine.specs.Policy.{PolicyState}
+use Rattle.scx_sched_policy.specs.Policy.{PolicyState}
 use Rattle.scx_sched.specs.Sim.{SimState, IsFirstState}
 use Rattle.scx_load_workloads.specs.Workload.{WorkloadState, IsWorkload, first_tree}
 use Rattle.scx_load_driver.specs.Runs.{AreAccepted}

@@ -10,6 +10,8 @@
 //! millisecond in which they wake, and a driver watches only the tasks that may have run enough. Changes of weights
 //! are sorted by their times once, and a block looks only at its own.
 //!
+//! `Events` is the trait of what gives a machine its events: a driver, or what reads a file of events.
+//!
 //! The headline: for every policy whose callbacks `verify` accepts and every list of events, the recorded
 //! run is the machine's; in it no callback is ever stuck or takes more steps than it has instructions,
 //! every runnable task appears exactly once on a processor or in a queue, and while the policy is in force
@@ -20,11 +22,13 @@
 mod blocks;
 mod calendar;
 mod driver;
+mod events;
 mod laws;
 mod run;
 mod set;
 mod skipping;
 
 pub use driver::{Driver, Phase};
+pub use events::Events;
 pub use laws::no_event_is_refused;
 pub use run::run_events;

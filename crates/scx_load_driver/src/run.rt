@@ -2,7 +2,7 @@ ghost use Rattle.std.specs.Prelude.{◌≡◌, ℕ, ◌≤◌, false, None, IfOk
 ghost use Rattle.std.specs.List.{AllByRecursion};
 ghost use Rattle.scx_sched_machine.specs.Notes.{Takes};
 ghost use Rattle.scx_sched_machine.specs.Callbacks.{AreAnswered};
-ghost use Rattle.scx_sched_machine.specs.Policy.{IsTimeout, AreAs};
+ghost use Rattle.scx_sched_policy.specs.Policy.{IsTimeout, AreAs};
 ghost use Rattle.scx_sched_machine.specs.Start.{is_bad_shape, IsRefusal, AreAnsweredBefore};
 ghost use Rattle.scx_sched.specs.Once.{IsOnce};
 ghost use Rattle.scx_sched.specs.Usages.{AreBounded};

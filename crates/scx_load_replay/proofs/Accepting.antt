@@ -7,7 +7,7 @@ use Rattle.scx_weights.specs.Refusals.{weight_fault}
 use Rattle.scx_sched_world.specs.World.{running}
 use Rattle.scx_sched_machine.specs.declared.events.Event.{Event}
 use Rattle.scx_sched_machine.specs.declared.events.Event.TheVariants as event
-use Rattle.scx_sched_machine.specs.Policy.{PolicyState}
+use Rattle.scx_sched_policy.specs.Policy.{PolicyState}
 use Rattle.scx_sched_machine.specs.Events as machine
 use Rattle.scx_sched.specs.Sim.{SimState, max_events, refusal, after_event, stepped_if, IsFirstState}
 use Rattle.scx_load_workloads.specs.Workload.{WorkloadState, first_tree}

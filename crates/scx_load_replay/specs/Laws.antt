@@ -1,7 +1,7 @@
 -- Laws of the events of every file: each line comes, and none is refused.
 use Rattle.std.specs.Prelude.{◌≡◌, nat_lt, Bool, map, filter}
 use Rattle.scx_sched_machine.specs.declared.events.Event.{Event}
-use Rattle.scx_sched_machine.specs.Policy.{PolicyState}
+use Rattle.scx_sched_policy.specs.Policy.{PolicyState}
 use Rattle.scx_sched.specs.Sim.{SimState, IsFirstState}
 use Rattle.scx_load_workloads.specs.Workload.{first_tree}
 use Rattle.scx_load_driver.specs.Runs.{AreAccepted}

@@ -11,6 +11,7 @@
 //! `workload_file` goes the other way: it writes a workload file whose events begin with a list of events.
 #![tactic(auto)]
 
+mod events;
 mod laws;
 mod lines;
 mod progress;

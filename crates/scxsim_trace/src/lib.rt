@@ -2,14 +2,12 @@
 //! notes come.
 //!
 //! `observe` gives events to a machine, one after another, and shows an `Observer` each event, its notes and calls.
-//! `go_through` is its loop, for an `EventSink` that runs the programs itself.
-//! `Events` are those of a workload or of a file of events. `write_run` writes the trace and keeps nothing of the
-//! run; `write_report` writes the run time of each task.
+//! `go_through` is its loop, for an `EventSink` that runs the programs itself. `write_run` writes the trace and keeps
+//! nothing of the run; `write_report` writes the run time of each task.
 #![tactic(auto)]
 
 mod clock_text;
 mod event_sink;
-mod events;
 mod kinds;
 mod lines;
 mod names;
@@ -19,7 +17,6 @@ mod run;
 mod trace;
 
 pub use event_sink::EventSink;
-pub use events::Events;
 pub use names::Names;
 pub use observer::{Observer, observe};
 pub use report::write_report;

@@ -5,9 +5,9 @@ ghost use Rattle.scx_sched.specs.Sim.{SimState};
 ghost use Rattle.scxsim_trace.specs.Observing.{is_at_end, Watches, HandsOn, ComesTo};
 
 use crate::event_sink::EventSink;
-use crate::events::Events;
 use crate::run::go_through;
 use scx_isa::Callback;
+use scx_load_driver::Events;
 use scx_maps::Maps;
 use scx_sched::{Event, Note, Sim, Sink, Unseen, What};
 use scx_sched_world::World;

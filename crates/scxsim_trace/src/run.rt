@@ -8,9 +8,9 @@ ghost use Rattle.scx_sched.specs.Sim.{after_event, notes_of};
 ghost use Rattle.scxsim_trace.specs.Runs.{IsInOrder, GoesWell, StaysInOrder, Observed, PassesBy, StopsAtFailure};
 
 use crate::event_sink::EventSink;
-use crate::events::Events;
 use crate::names::Names;
 use crate::trace::Trace;
+use scx_load_driver::Events;
 use scx_sched::{Event, Sim, Sink, Unseen};
 use scxsim_output::{Failed, Out};
 

@@ -3,11 +3,8 @@ ghost use Rattle.scx_sched_machine.specs.declared.events.Event.{Event};
 ghost use Rattle.scx_sched.specs.Sim.{SimState, after_event};
 ghost use Rattle.scx_load_driver.specs.Driver as driver;
 ghost use Rattle.scx_load_driver.specs.Runs.{Skips};
-ghost use Rattle.scx_load_replay.specs.Replayer as replayer;
-ghost use Rattle.scx_load_replay.specs.Sources as sources;
 
-use scx_load_driver::Driver;
-use scx_load_replay::{Replayer, Source};
+use crate::driver::Driver;
 use scx_sched::{Event, Sim};
 
 /// Events for a machine, one after another.
@@ -24,7 +21,7 @@ pub trait Events {
     /// Gives the machine, at once, events that come next and of which nothing is noted, for a machine that took exactly
     /// the events before them; or none.
     #[inline(always)]
-    #[tactic(auto, using(scx_load_driver::proofs::Passing::skips_none))]
+    #[tactic(auto, using(crate::proofs::Passing::skips_none))]
     fn skip(&mut self, sim: &mut Sim)
         ensures { Skips (remaining self.old sim.old) sim.old (remaining self.new sim.new) sim.new }
     {
@@ -43,27 +40,5 @@ impl Events for Driver {
     #[inline(always)]
     fn skip(&mut self, sim: &mut Sim) {
         Driver::skip(self, sim);
-    }
-}
-
-impl Events for Replayer {
-    ghost remaining = { λ r s. replayer.remaining r };
-
-    fn next(&mut self, _sim: &Sim) -> Option<Event> {
-        Replayer::next(self)
-    }
-}
-
-impl Events for Source {
-    ghost remaining = { sources.remaining };
-
-    #[inline(always)]
-    fn next(&mut self, sim: &Sim) -> Option<Event> {
-        Source::next(self, sim)
-    }
-
-    #[inline(always)]
-    fn skip(&mut self, sim: &mut Sim) {
-        Source::skip(self, sim);
     }
 }
