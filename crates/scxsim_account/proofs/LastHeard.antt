@@ -9,12 +9,8 @@ use Rattle.scx_sched.specs.Sim.{SimState, after_event, calls_of}
 use Rattle.scx_load_driver.specs.Runs.{stepped_all}
 use Rattle.scx_load_driver.specs.Headline.{calls_of_all}
 use Rattle.scx_load_driver.proofs.Accepting.{stepped_behind}
-use Rattle.scx_load_replay.specs.declared.scenario.Scenario.{Scenario}
-use Rattle.scx_load_replay.specs.Scenarios.{scenario_events}
-use Rattle.scxsim_simulation.specs.Scenarios.{IsScenarioRun}
 use Rattle.scxsim_account.specs.declared.call_end.CallEnd.{CallEnd}
 use Rattle.scxsim_account.specs.LastCalls.{IsEndOf, IsEndOfLast, IsEndAfter, IsLastBeforeEjection}
-use Rattle.scxsim_account.specs.Runs.{IsLastOfTexts}
 
 -- the calls of some events and of one more
 calls_next : (es : List Event) (e : Event) (s : SimState) → calls_of_all s (es ++ e ∷ []) ≡ calls_of_all s es ++ calls_of (stepped_all s es) e
@@ -88,9 +84,3 @@ up_to_ejection s t events rest None passed ejected = tt
 up_to_ejection s t events rest (Some end) (passed, whole, state, ends) ejected =
     let Out : SimState → Type 0 = λ v. is_some v.state.world.ejected ≡ true in
     record { done = passed; rest = rest; whole = whole; ejected = subst Out state ejected; last = ends }
-
--- in the run of two texts
-pub last_of_texts : (policy scenario : List ℕ) (of_scenario : Scenario) (s : SimState) (x : Option CallEnd) → IsScenarioRun policy scenario of_scenario s
-    → IfSome x (IsLastBeforeEjection s (scenario_events of_scenario s)) → IfSome x (IsLastOfTexts policy scenario)
-last_of_texts policy scenario of_scenario s None run last = tt
-last_of_texts policy scenario of_scenario s (Some end) run last = record { of_scenario = of_scenario; first = s; run = run; last = last }

@@ -1,3 +1,2 @@
 pub mod Idling
 pub mod LastCalls
-pub mod Runs

@@ -7,10 +7,11 @@ use crate::ejection::{Ejection, Moment};
 use crate::idling::{Idling, waits_since};
 use crate::recent::{RecentNotes, task_of};
 use scx_isa::Callback;
+use scx_load_driver::Events;
 use scx_sched::{Event, Note, Sim, What};
 use scx_sched_world::World;
 use scx_vm::Args;
-use scxsim_trace::{Events, Observer, observe};
+use scxsim_trace::{Observer, observe};
 use scxsim_waits::{
     Beginning, Calls, IdleStretch, IdleStretches, LongWait, Occurrence, QueueTraffic, Scene,
     WaitingTask, Waits,

@@ -40,3 +40,11 @@ pub(crate) fn end_of(
 pub(crate) fn is_near(sim: &Sim, clock: u64) -> bool {
     clock <= sim.clock().saturating_add(1)
 }
+
+/// A task that enqueue put nowhere, the clock of it, and the end of that call.
+#[derive(Clone, Copy)]
+pub struct HeldTask {
+    pub task: u16,
+    pub clock: u64,
+    pub end: CallEnd,
+}

@@ -2,6 +2,7 @@ ghost use Rattle.std.specs.Prelude.{⊤};
 
 use crate::call_end::{CallEnd, end_of, is_near};
 use scx_isa::Callback;
+use scx_load_driver::Events;
 use scx_maps::Maps;
 use scx_sched::{Event, Hearer, MAX_EVENTS, Note, Sim, Sink, Unseen};
 use scx_sched_world::World;
@@ -9,7 +10,6 @@ use scx_verify::Verified;
 use scx_vm::{Arg, Args};
 use scx_vm_run::Core;
 use scxsim_faults::{MapReads, run_seen};
-use scxsim_trace::Events;
 
 /// Runs the calls of enqueue for a task at a clock instruction by instruction, and keeps the end of the last one that
 /// put the task nowhere.
@@ -74,12 +74,7 @@ impl Hearer for Holding {
 
 /// The end of the last call of enqueue that put the task nowhere at that clock, in a run of these events, up to the end
 /// of that millisecond or to the policy's ejection.
-pub(crate) fn hold_of<E: Events>(
-    events: &mut E,
-    sim: &mut Sim,
-    task: u16,
-    clock: u64,
-) -> Option<CallEnd> {
+pub fn hold_of<E: Events>(events: &mut E, sim: &mut Sim, task: u16, clock: u64) -> Option<CallEnd> {
     let mut hearer = Holding {
         task,
         clock,

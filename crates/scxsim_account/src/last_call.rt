@@ -4,6 +4,7 @@ ghost use Rattle.scxsim_account.specs.declared.call_end.CallEnd.{CallEnd};
 ghost use Rattle.scxsim_account.specs.LastCalls.{IsEndOf, IsEndAfter, IsLastBeforeEjection};
 
 use crate::call_end::{CallEnd, end_of, is_near};
+use scx_load_driver::Events;
 use scx_maps::Maps;
 use scx_sched::{Event, Hearer, MAX_EVENTS, Note, Sim, Unseen};
 use scx_sched_world::World;
@@ -11,7 +12,6 @@ use scx_verify::Verified;
 use scx_vm::Args;
 use scx_vm_run::Core;
 use scxsim_faults::{MapReads, run_seen};
-use scxsim_trace::Events;
 
 /// Runs callbacks instruction by instruction, and keeps the end of the last one.
 #[derive(Drop)]
@@ -51,7 +51,7 @@ impl Hearer for LastCall {
 
 /// The end of the last callback before the policy is ejected, in a run of these events, if it is called at that clock
 /// or later.
-pub(crate) fn last_end<E: Events>(events: &mut E, sim: &mut Sim, from: u64) -> Option<CallEnd>
+pub fn last_end<E: Events>(events: &mut E, sim: &mut Sim, from: u64) -> Option<CallEnd>
     ensures { IfSome result (IsLastBeforeEjection sim.old (E.remaining events.old sim.old)) }
 {
     let mut end = None;

@@ -1,8 +1,9 @@
 use crate::ending::write_event;
+use crate::finding::Findings;
 use crate::json::{end, number, push_name, string, text, truth};
 use scx_load_workloads::Workload;
 use scx_sched::Event;
-use scxsim_account::{Cause, Ejection, Findings};
+use scxsim_account::{Cause, Ejection};
 use scxsim_faults::{FaultPlace, write_call, write_policy_queues, write_reason};
 use scxsim_output::Text;
 use scxsim_trace::Names;

@@ -1,6 +1,7 @@
+use crate::finding::Findings;
 use crate::json::{begin, end, number, push_name, push_queue, queue, string, truth};
 use scx_isa::{CALLBACKS, Callback};
-use scxsim_account::{CallEnd, ElementRead, Findings, HeldTask, MOST_READS};
+use scxsim_account::{CallEnd, ElementRead, HeldTask, MOST_READS};
 use scxsim_output::Text;
 use scxsim_statistics::QuotaFigures;
 use scxsim_trace::Names;

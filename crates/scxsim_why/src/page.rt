@@ -3,17 +3,18 @@ use crate::ending::{
     Ejected, write_event, write_last_lines, write_never, write_stall, write_unplaced,
     write_unplaced_exit,
 };
+use crate::finding::Findings;
 use crate::lines::{append_up_to, line_count};
-use crate::queues::{write_queues, write_undrained};
 use scx_isa::Callback;
 use scx_load_workloads::Workload;
 use scx_sched::Event;
-use scxsim_account::{Account, Cause, Findings};
+use scxsim_account::{Account, Cause};
 use scxsim_faults::{FaultPlace, write_call, write_policy_queues, write_reason};
 use scxsim_output::Text;
 use scxsim_why_lines::{
-    Length, write_held_task, write_idle, write_last_reads, write_message, write_reads, write_scale,
-    write_stretches, write_throttled, write_waits, write_worst,
+    Length, write_held_task, write_idle, write_last_reads, write_message, write_queues,
+    write_reads, write_scale, write_stretches, write_throttled, write_undrained, write_waits,
+    write_worst,
 };
 use std::alloc::{AllocError, Global};
 

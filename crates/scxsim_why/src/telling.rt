@@ -2,14 +2,14 @@ ghost use Rattle.std.specs.Prelude.{◌≡◌, ◌++◌, ℕ, List, true, Err, I
 ghost use Rattle.std.specs.Io.KnownBytes.{Appends};
 ghost use Rattle.scxsim_output.specs.Output.{Counts, HasFailed};
 ghost use Rattle.scxsim_commands.specs.Outcome.{IfRefused, IsRefused};
-ghost use Rattle.scxsim_simulation.specs.Scenarios.{IsScenarioCause};
+ghost use Rattle.scxsim_runs.specs.Scenarios.{IsScenarioCause};
 ghost use Rattle.scxsim_why.specs.Pages.{page};
 
+use crate::finding::{Findings, examine};
 use crate::page::write_page;
-use scxsim_account::{Findings, examine};
 use scxsim_commands::{Fault, Refusal};
 use scxsim_output::{Failed, Out, Text, write_all};
-use scxsim_simulation::Listener;
+use scxsim_runs::Listener;
 use scxsim_why_lines::Length;
 use std::alloc::{AllocError, Global};
 

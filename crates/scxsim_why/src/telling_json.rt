@@ -1,20 +1,21 @@
 ghost use Rattle.std.specs.Prelude.{◌≡◌, ℕ, List, true, Err, IfOk, IfErr, OnOk, string_bytes};
 ghost use Rattle.std.specs.Io.KnownBytes.{Appends};
-ghost use Rattle.scxsim_account.specs.Runs.{IsIdleOfTexts};
+ghost use Rattle.scxsim_why.specs.Findings.{IsIdleOfTexts};
 ghost use Rattle.scxsim_account.specs.declared.idling.IdleFigures.{IdleFigures as Idle};
 ghost use Rattle.scxsim_output.specs.Output.{Counts, HasFailed};
 ghost use Rattle.scxsim_output.specs.Texts.{Puts};
 ghost use Rattle.scxsim_commands.specs.Outcome.{IfRefused, IsRefused};
-ghost use Rattle.scxsim_simulation.specs.Scenarios.{IsScenarioCause};
+ghost use Rattle.scxsim_runs.specs.Scenarios.{IsScenarioCause};
 ghost use Rattle.scxsim_why.specs.Json.{idle_line, objects};
 
 use crate::ending_json::write_ending;
+use crate::finding::{Findings, examine};
 use crate::objects::write_objects;
 use crate::telling::write_both;
-use scxsim_account::{Findings, IdleFigures, examine};
+use scxsim_account::IdleFigures;
 use scxsim_commands::{Fault, Refusal};
 use scxsim_output::{Failed, Out, Text};
-use scxsim_simulation::Listener;
+use scxsim_runs::Listener;
 use std::alloc::{AllocError, Global};
 
 /// The beginning of the first line.

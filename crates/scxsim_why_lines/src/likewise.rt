@@ -1,6 +1,6 @@
 use crate::words::write_more;
+use crate::worst::{is_of_moment, waits_of_moments};
 use scx_load_workloads::Workload;
-use scxsim_account::{is_of_moment, waits_of_moments};
 use scxsim_output::Text;
 use scxsim_statistics::TaskFigures;
 use scxsim_trace::Names;

@@ -1,5 +1,5 @@
 use Rattle.std.specs.Prelude.{string_bytes}
-use Rattle.scxsim_simulation.proofs.Pieces.{all_put}
+use Rattle.scxsim_output.proofs.Pieces.{all_put}
 use Rattle.scxsim_why.specs.Json.{idle_line}
 use Rattle.scxsim_why.proofs.telling_json.idle_line.Goals as goal
 

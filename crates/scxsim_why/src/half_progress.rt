@@ -1,4 +1,4 @@
-use scxsim_simulation::Listener;
+use scxsim_runs::Listener;
 
 /// Tells a listener of one of two times through a run, each as one half of a way twice as long.
 #[derive(Drop)]

@@ -1,16 +1,17 @@
+use crate::length::Length;
+use crate::words::{tasks_of, write_count, write_more};
 use scx_load_workloads::Workload;
 use scx_sched_world::LOCAL_ON;
 use scxsim_output::Text;
 use scxsim_trace::Names;
 use scxsim_views::QueueName;
 use scxsim_waits::{QueueFigures, QueueTraffic};
-use scxsim_why_lines::{Length, tasks_of, write_count, write_more};
 
 /// The most queues, and the most held tasks, that are named.
 const NAMED: u64 = 10;
 
 /// Writes the queues that tasks came into and no task left.
-pub(crate) fn write_undrained(queues: &QueueTraffic, page: &mut Text) {
+pub fn write_undrained(queues: &QueueTraffic, page: &mut Text) {
     let mut undrained = 0u64;
     for figures in queues.figures.as_slice() {
         if figures.left == 0 {
@@ -34,12 +35,7 @@ pub(crate) fn write_undrained(queues: &QueueTraffic, page: &mut Text) {
 }
 
 /// Writes the number of tasks that came into each queue and left it, and the tasks that were held at the end.
-pub(crate) fn write_queues(
-    workload: &Workload,
-    queues: &QueueTraffic,
-    length: Length,
-    page: &mut Text,
-) {
+pub fn write_queues(workload: &Workload, queues: &QueueTraffic, length: Length, page: &mut Text) {
     page.push("\n     came     left    there  queue\n");
     let joins = length.joins_cpus(workload);
     for figures in queues.figures.as_slice() {

@@ -3,7 +3,7 @@ use Rattle.std.specs.Prelude.{ℕ, ◌≡◌, List}
 use Rattle.scx_sched.specs.Sim.{SimState}
 use Rattle.scx_load_replay.specs.declared.scenario.Scenario.{Scenario}
 use Rattle.scx_load_replay.specs.Scenarios.{scenario_events}
-use Rattle.scxsim_simulation.specs.Scenarios.{IsScenarioRun}
+use Rattle.scxsim_runs.specs.Scenarios.{IsScenarioRun}
 use Rattle.scxsim_account.specs.declared.idling.IdleFigures.{IdleFigures}
 use Rattle.scxsim_account.specs.declared.call_end.CallEnd.{CallEnd}
 use Rattle.scxsim_account.specs.Idling.{idle_of, figures_of}

@@ -1,29 +1,25 @@
 ghost use Rattle.std.specs.Prelude.{◌≡◌, IfOk, IfErr, IfSome};
 ghost use Rattle.scx_load_replay.specs.Scenarios.{scenario_events};
 ghost use Rattle.scx_load_replay.specs.Sources.{remaining};
-ghost use Rattle.scxsim_simulation.specs.Scenarios.{IsScenarioRun, IsScenarioCause};
+ghost use Rattle.scxsim_runs.specs.Scenarios.{IsScenarioRun, IsScenarioCause};
 ghost use Rattle.scxsim_statistics.specs.Figures.{AreOfTexts};
 ghost use Rattle.scxsim_account.specs.Idling.{idle_of};
 ghost use Rattle.scxsim_account.specs.LastCalls.{IsLastBeforeEjection};
-ghost use Rattle.scxsim_account.specs.Runs.{IsIdleOfTexts, IsLastOfTexts};
+ghost use Rattle.scxsim_why.specs.Findings.{IsIdleOfTexts, IsLastOfTexts};
 
-use crate::account::{Account, account_of};
-use crate::call_end::CallEnd;
 use crate::half_progress::HalfProgress;
-use crate::holding::hold_of;
-use crate::idling::IdleFigures;
-use crate::last_call::last_end;
-use crate::worst::worst_of;
+use scx_load_driver::Events;
 use scx_load_policies::{Programs, read_policy};
 use scx_load_replay::Source;
 use scx_sched::{Eject, Sim};
 use scx_sched_world::HELD;
+use scxsim_account::{Account, CallEnd, HeldTask, IdleFigures, account_of, hold_of, last_end};
 use scxsim_commands::Refusal;
 use scxsim_faults::{FaultPlace, find_fault_among};
-use scxsim_simulation::{Heard, Listener, ScenarioRun, give_back, prepare_scenario};
+use scxsim_runs::{Heard, Listener, ScenarioRun, give_back, prepare_scenario};
 use scxsim_statistics::{Figures, figures};
-use scxsim_trace::Events;
 use scxsim_waits::{Waits, WatchedWait};
+use scxsim_why_lines::worst_of;
 use std::alloc::{AllocError, Global};
 
 /// The findings of a run.
@@ -41,14 +37,6 @@ pub struct Findings {
     pub held: Option<HeldTask>,
     /// The programs of the policy.
     pub programs: Programs,
-}
-
-/// A task that enqueue put nowhere, the clock of it, and the end of that call.
-#[derive(Clone, Copy)]
-pub struct HeldTask {
-    pub task: u16,
-    pub clock: u64,
-    pub end: CallEnd,
 }
 
 /// The findings of the run of a policy file's text and of a workload's or of a file of events.

@@ -1,7 +1,7 @@
 use Rattle.std.proofs.Common.{ap, ◌∙◌}
 use Rattle.scxsim_account.specs.Idling.{figures_of}
-use Rattle.scxsim_account.proofs.LastHeard.{last_of_texts}
-use Rattle.scxsim_account.proofs.finding.examine.Goals as goal
+use Rattle.scxsim_why.proofs.Found.{last_of_texts}
+use Rattle.scxsim_why.proofs.finding.examine.Goals as goal
 
 pub returns-clause-idle : goal.returns-clause-idle
 returns-clause-idle g c = record {
