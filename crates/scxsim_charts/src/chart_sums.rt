@@ -7,7 +7,7 @@ use crate::waits::{Paused, Waits};
 use scx_load_workloads::Workload;
 use scx_sched::{Event, Sim, What};
 use scxsim_commands::Ejection;
-use scxsim_simulation::{Heard, Listener, ScenarioRun, give_back};
+use scxsim_runs::{Heard, Listener, ScenarioRun, give_back};
 use scxsim_trace::{Observer, observe};
 use scxsim_views::{PauseKind, has_cpu};
 use std::alloc::{AllocError, Global};

@@ -2,7 +2,7 @@ ghost use Rattle.std.specs.Prelude.{◌≡◌, ℕ, List, true, Err, IfOk, IfErr
 ghost use Rattle.std.specs.Io.KnownBytes.{Appends};
 ghost use Rattle.scxsim_output.specs.Output.{Counts, HasFailed};
 ghost use Rattle.scxsim_commands.specs.Outcome.{IfRefused, IsRefused};
-ghost use Rattle.scxsim_simulation.specs.ScenarioParts.{IsScenarioPartCause};
+ghost use Rattle.scxsim_runs.specs.ScenarioParts.{IsScenarioPartCause};
 ghost use Rattle.scxsim_charts.specs.Charts.{chart};
 
 use crate::chart_sums::{Chart, gather};
@@ -11,7 +11,7 @@ use crate::scales::Scale;
 use crate::sheets::{Sheet, cells_of};
 use scxsim_commands::{Fault, Refusal, Span};
 use scxsim_output::{Failed, Out, Text, write_all};
-use scxsim_simulation::{Listener, ScenarioPart, prepare_scenario_part};
+use scxsim_runs::{Listener, ScenarioPart, prepare_scenario_part};
 use std::alloc::{AllocError, Global};
 
 /// Writes the chart of the run of a policy file and of a workload or a file of events, or of a part of it. The answer
@@ -57,7 +57,7 @@ fn write_lines<W: Out>(title: &str, lines: &str, out: &mut W) -> Result<(), Fail
 }
 
 /// The lines of the chart of a run, or of a part of it. All memory is taken before the first byte is written.
-#[tactic(auto, using(scxsim_simulation::proofs::PartCauses::out_of_memory_of_scenario))]
+#[tactic(auto, using(scxsim_runs::proofs::PartCauses::out_of_memory_of_scenario))]
 fn lines_of<L: Listener>(
     alloc: Global,
     columns: u64,

@@ -6,7 +6,7 @@ use Rattle.scx_explore_bounds.specs.declared.bounds.Bounds.{Bounds}
 use Rattle.scx_explore_states.specs.declared.form.Form.{Form}
 use Rattle.scx_explore_states.specs.Written.{IsSuited}
 use Rattle.scx_explore_bounds.specs.Forms.{IsFormFrom}
-use Rattle.scxsim_simulation.specs.Runs.{IsRun}
+use Rattle.scxsim_runs.specs.Runs.{IsRun}
 use Rattle.scxsim_explore.specs.declared.beginning.Start.{Start}
 use Rattle.scxsim_explore.specs.declared.beginning.Start.TheVariants.{Past, Within}
 use Rattle.scxsim_explore.specs.Words.{IsPastIn, IsPastTexts, IsWithin}

@@ -24,7 +24,7 @@ use Rattle.scx_load_replay.specs.WorkloadFiles.{IsFileOf}
 use Rattle.scx_explore.specs.declared.starts.Starts.{Starts}
 use Rattle.scx_explore_bounds.specs.Forms.{IsFormFrom}
 use Rattle.scx_explore.specs.Ends.{HasNoNew, done_of}
-use Rattle.scxsim_simulation.specs.Runs.{IsRun}
+use Rattle.scxsim_runs.specs.Runs.{IsRun}
 use Rattle.scxsim_explore.specs.declared.limits.Limit.{Limit}
 use Rattle.scxsim_explore.specs.declared.limits.Lists.{Lists}
 use Rattle.scxsim_explore_lines.specs.Found.{ToldList, told_texts}

@@ -7,7 +7,7 @@ use Rattle.scx_sched.specs.Sim.{SimState}
 use Rattle.scx_explore_bounds.specs.declared.bounds.Bounds.{Bounds}
 use Rattle.scx_explore_bounds.specs.declared.bounds.Mode.{Mode}
 use Rattle.scx_explore_bounds.specs.declared.bounds.Mode.TheVariants as mode
-use Rattle.scxsim_simulation.specs.Runs.{IsRun}
+use Rattle.scxsim_runs.specs.Runs.{IsRun}
 use Rattle.scxsim_explore.specs.declared.limits.Lists.{Lists}
 use Rattle.scxsim_explore.specs.declared.limits.Limit.{Limit}
 use Rattle.scxsim_explore.specs.declared.limits.Limit.TheVariants as limit

@@ -1,7 +1,7 @@
 ghost use Rattle.std.specs.Prelude.{◌≡◌, IfOk, IfErr};
 ghost use Rattle.scxsim_commands.specs.declared.refusal.Refusal.TheVariants.{NoMemory};
 ghost use Rattle.scx_explore_bounds.specs.Forms.{IsFormOf};
-ghost use Rattle.scxsim_simulation.specs.Runs.{IsCause};
+ghost use Rattle.scxsim_runs.specs.Runs.{IsCause};
 ghost use Rattle.scxsim_explore.specs.Beginning.{IsStart, IsStartOf};
 
 use crate::limits::{Limit, limit_of};
@@ -12,7 +12,7 @@ use scx_isa::CALLBACKS;
 use scx_load_workloads::Workload;
 use scx_sched::{Event, Sim};
 use scxsim_commands::Refusal;
-use scxsim_simulation::{Run, prepare};
+use scxsim_runs::{Run, prepare};
 use std::alloc::{AllocError, Global};
 
 /// The memory of a search, in bytes.

@@ -3,7 +3,7 @@ ghost use Rattle.std.specs.Io.KnownBytes.{Appends};
 ghost use Rattle.scxsim_output.specs.Output.{HasFailed};
 ghost use Rattle.scx_explore_bounds.specs.declared.bounds.Bounds.{Bounds};
 ghost use Rattle.scxsim_commands.specs.Outcome.{IfRefused, IsRefused};
-ghost use Rattle.scxsim_simulation.specs.Runs.{IsCause};
+ghost use Rattle.scxsim_runs.specs.Runs.{IsCause};
 ghost use Rattle.scxsim_explore.specs.Telling.{IsAnswer};
 ghost use Rattle.scxsim_explore.specs.Words.{IsBoundsOf, limit_line};
 

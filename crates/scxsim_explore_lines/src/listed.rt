@@ -1,7 +1,7 @@
 ghost use Rattle.std.specs.Prelude.{◌≡◌, drop};
 
+use scx_load_driver::Events;
 use scx_sched::{Event, Sim};
-use scxsim_trace::Events;
 
 /// The events of a list, one after another.
 #[derive(Drop)]

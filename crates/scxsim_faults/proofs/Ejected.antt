@@ -9,7 +9,7 @@ use Rattle.scx_sched_world.specs.Ejecting.{eject_of}
 use Rattle.scx_sched_machine.specs.declared.events.Event.{Event}
 use Rattle.scx_sched_machine.specs.Hearing.{Hears}
 use Rattle.scx_sched_machine.specs.Steps.{CallMade}
-use Rattle.scx_sched_machine.specs.Policy.{PolicyState, with_seed}
+use Rattle.scx_sched_policy.specs.Policy.{PolicyState, with_seed}
 use Rattle.scx_sched.specs.Causes.{IsLast, IsCause, Waited, Went_wrong, Ended, EjectsOnce}
 use Rattle.scx_sched_machine.specs.Start.{first_state, IsRefusal, start_calls, calls_before}
 use Rattle.scx_sched_machine.specs.declared.start.NewError.{NewError}

@@ -24,7 +24,7 @@ use Rattle.scx_sched_world.specs.Ejecting.{eject_of}
 use Rattle.scx_sched_world.specs.World.{WorldState}
 use Rattle.scx_sched_world.specs.Helpers.{cpus_of, world_functions}
 use Rattle.scx_sched_machine.specs.declared.events.Event.{Event}
-use Rattle.scx_sched_machine.specs.Policy.{PolicyState}
+use Rattle.scx_sched_policy.specs.Policy.{PolicyState}
 use Rattle.scx_sched_machine.specs.Start.{first_state, start_calls}
 use Rattle.scx_sched_machine.specs.Steps.{CallMade}
 use Rattle.scx_sched.specs.Causes.{EndsIn, IsLast}

@@ -9,14 +9,13 @@ ghost use Rattle.scxsim_faults.specs.Places.{IsPlaceAt, IsPlaceIn, IsPlaceUnder,
 
 use crate::finder::Finder;
 use crate::place::FaultPlace;
-use scx_load_driver::Driver;
+use scx_load_driver::{Driver, Events};
 use scx_load_files::LoadError;
 use scx_load_policies::{BuildError, PolicyText, build, read_policy};
 use scx_load_replay::Scenario;
 use scx_load_workloads::Workload;
 use scx_sched::{Event, MAX_EVENTS, NewError, Policy, Sim, Unseen};
 use scx_weights::Tree;
-use scxsim_trace::Events;
 use std::alloc::{AllocError, Global};
 
 /// Finds the first fault or exit of the callback for which a policy was ejected at that clock, in the run of a

@@ -5,8 +5,8 @@ use Rattle.scx_load_replay.specs.Scenarios.{workload_of}
 use Rattle.scx_sched.specs.Sim.{SimState}
 use Rattle.scxsim_commands.specs.declared.refusal.Refusal.{Refusal}
 use Rattle.scxsim_commands.specs.declared.refusal.Refusal.TheVariants.{NoMemory}
-use Rattle.scxsim_simulation.specs.Scenarios.{IsScenarioRun}
-use Rattle.scxsim_simulation.proofs.PartCauses as causes
+use Rattle.scxsim_runs.specs.Scenarios.{IsScenarioRun}
+use Rattle.scxsim_runs.proofs.PartCauses as causes
 use Rattle.scxsim_commands.specs.declared.windows.Window.{Window}
 use Rattle.scxsim_commands.specs.Windows.{IsWindow}
 use Rattle.scxsim_commands.specs.declared.windows.Span.{Span}

@@ -6,8 +6,8 @@ use Rattle.scx_load_replay.specs.Scenarios.{workload_of}
 use Rattle.scxsim_commands.specs.declared.refusal.TheConstants.{MOST_STRETCHES}
 use Rattle.scxsim_commands.specs.declared.refusal.Refusal.{Refusal}
 use Rattle.scxsim_commands.specs.declared.refusal.Refusal.TheVariants.{TooManyStretches}
-use Rattle.scxsim_simulation.specs.Scenarios.{IsScenarioRun}
-use Rattle.scxsim_simulation.specs.ScenarioParts.{IsScenarioPartCause}
+use Rattle.scxsim_runs.specs.Scenarios.{IsScenarioRun}
+use Rattle.scxsim_runs.specs.ScenarioParts.{IsScenarioPartCause}
 use Rattle.scxsim_commands.specs.declared.windows.Window.{Window}
 use Rattle.scxsim_commands.specs.Windows.{IsWindow}
 use Rattle.scxsim_commands.specs.declared.windows.Span.{Span}

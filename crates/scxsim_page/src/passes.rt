@@ -1,4 +1,4 @@
-use scxsim_simulation::Listener;
+use scxsim_runs::Listener;
 
 /// A pass over a run: the only one, or the first or the second of two.
 #[derive(Clone, Copy)]

@@ -13,7 +13,7 @@ use scx_load_workloads::Workload;
 use scxsim_commands::{Fault, MOST_STRETCHES, Refusal, Span, Window};
 use scxsim_output::Out;
 use scxsim_pictures::write_document;
-use scxsim_simulation::{Listener, ScenarioPart, ScenarioRun, prepare_scenario_part};
+use scxsim_runs::{Listener, ScenarioPart, ScenarioRun, prepare_scenario_part};
 use scxsim_template::{CODE, TOP};
 use std::alloc::Global;
 

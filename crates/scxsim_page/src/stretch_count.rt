@@ -1,10 +1,11 @@
 ghost use Rattle.std.specs.Prelude.{◌≡◌, IfOk, None, slice_index_or};
 ghost use Rattle.scxsim_page.specs.Stretches.{within, has_lasted, with_one, none_yet, turned, all_counted, stretches_of, stretches_in};
 
+use scx_load_driver::Events;
 use scx_sched::{Event, Sim, What};
 use scxsim_commands::Window;
-use scxsim_simulation::{Heard, Listener, ScenarioRun};
-use scxsim_trace::{Events, Observer, observe};
+use scxsim_runs::{Heard, Listener, ScenarioRun};
+use scxsim_trace::{Observer, observe};
 use std::alloc::{AllocError, Global};
 use std::marker::Model;
 

@@ -7,7 +7,7 @@ ghost use Rattle.scxsim_commands.specs.declared.refusal.Refusal.TheVariants.{NoM
 use crate::sketches::{Sketch, write_sketch};
 use scxsim_commands::{Fault, Refusal};
 use scxsim_output::Out;
-use scxsim_simulation::{Heard, Listener, ScenarioRun, give_back};
+use scxsim_runs::{Heard, Listener, ScenarioRun, give_back};
 use std::alloc::AllocError;
 
 /// Goes through the run, and writes its sketch between a head and an end, if there was memory for the sketch. The

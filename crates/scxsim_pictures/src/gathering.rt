@@ -1,6 +1,6 @@
 use scxsim_commands::Window;
+use scxsim_runs::{Heard, Listener, ScenarioRun, give_back};
 use scxsim_shapes::Picture;
-use scxsim_simulation::{Heard, Listener, ScenarioRun, give_back};
 use scxsim_sums::Gathering;
 use scxsim_trace::observe;
 use std::alloc::{AllocError, Global};

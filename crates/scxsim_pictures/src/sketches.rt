@@ -4,9 +4,10 @@ ghost use Rattle.scxsim_output.specs.Output.{Counts};
 ghost use Rattle.scxsim_trace.specs.Lines.{NameLists};
 ghost use Rattle.scxsim_pictures.specs.Sketching.{Grows, GrowsBy, WritesSketch};
 
+use scx_load_driver::Events;
 use scx_sched::{Event, Sim, What};
 use scxsim_output::{Failed, Out, write_all};
-use scxsim_trace::{Events, Names, Observer, observe};
+use scxsim_trace::{Names, Observer, observe};
 
 /// Makes a text of a run as it goes, a part after each note.
 pub trait Sketch {

@@ -2,14 +2,14 @@ ghost use Rattle.std.specs.Prelude.{◌≡◌, ℕ, List, true, Err, IfOk, IfErr
 ghost use Rattle.std.specs.Io.KnownBytes.{Appends};
 ghost use Rattle.scxsim_output.specs.Output.{Counts, HasFailed};
 ghost use Rattle.scxsim_commands.specs.Outcome.{IfRefused, IsRefused};
-ghost use Rattle.scxsim_simulation.specs.ScenarioParts.{IsScenarioPartCause};
+ghost use Rattle.scxsim_runs.specs.ScenarioParts.{IsScenarioPartCause};
 ghost use Rattle.scxsim_pictures.specs.Pictures.{svg};
 
 use crate::gathering::gather;
 use scxsim_commands::{Fault, Refusal, Span};
 use scxsim_output::{Failed, Out, write_named};
+use scxsim_runs::{Listener, ScenarioPart, prepare_scenario_part};
 use scxsim_shapes::draw;
-use scxsim_simulation::{Listener, ScenarioPart, prepare_scenario_part};
 use std::alloc::Global;
 
 /// Writes the picture of the run of a policy file and of a workload or a file of events, or of a part of it, in SVG
@@ -58,7 +58,7 @@ fn write_picture<W: Out>(drawn: &str, out: &mut W) -> Result<(), Failed>
 }
 
 /// The drawing of a run, or of a part of it. All memory is taken before the first byte is written.
-#[tactic(auto, using(scxsim_simulation::proofs::PartCauses::out_of_memory_of_scenario))]
+#[tactic(auto, using(scxsim_runs::proofs::PartCauses::out_of_memory_of_scenario))]
 fn drawn_of<L: Listener>(
     alloc: Global,
     title: &str,

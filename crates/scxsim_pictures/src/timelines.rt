@@ -2,7 +2,7 @@ ghost use Rattle.std.specs.Prelude.{◌≡◌, ℕ, List, true, Err, IfOk, OnOk,
 ghost use Rattle.std.specs.Io.KnownBytes.{Appends};
 ghost use Rattle.scxsim_output.specs.Output.{HasFailed};
 ghost use Rattle.scxsim_commands.specs.Outcome.{IfRefused, IsRefused};
-ghost use Rattle.scxsim_simulation.specs.ScenarioParts.{IsScenarioPartCause};
+ghost use Rattle.scxsim_runs.specs.ScenarioParts.{IsScenarioPartCause};
 ghost use Rattle.scxsim_pictures.specs.Documents.{document};
 ghost use Rattle.scxsim_pictures.specs.Bars.{IsPartOf, HasNoTime};
 
@@ -19,7 +19,7 @@ use scx_sched::What;
 use scx_sched_world::{LOCAL_ON, PARKED};
 use scxsim_commands::{Fault, Span, Window};
 use scxsim_output::{Failed, Out};
-use scxsim_simulation::{Listener, ScenarioPart, prepare_scenario_part};
+use scxsim_runs::{Listener, ScenarioPart, prepare_scenario_part};
 use scxsim_trace::Names;
 use std::alloc::{AllocError, Global};
 

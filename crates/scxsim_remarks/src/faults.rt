@@ -4,7 +4,7 @@ use scx_load_replay::Scenario;
 use scx_load_workloads::Workload;
 use scxsim_faults::{FaultPlace, find_fault, write_place, write_reason};
 use scxsim_output::Text;
-use scxsim_simulation::read_scenario;
+use scxsim_runs::read_scenario;
 use std::alloc::Global;
 
 /// A remark on the fault or exit for which the policy was ejected at that clock, or failed before the

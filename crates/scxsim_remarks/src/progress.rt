@@ -1,7 +1,7 @@
 use crate::estimate::Estimate;
 use crate::line::Line;
 use scx_sched::Eject;
-use scxsim_simulation::Listener;
+use scxsim_runs::Listener;
 use std::rt::Clock;
 
 /// Says on standard error how far a run is. Whether that can be written doesn't matter.

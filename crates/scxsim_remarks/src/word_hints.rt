@@ -10,7 +10,7 @@ use scx_load_workloads::{Workload, numeral};
 use scxsim_commands::Word;
 use scxsim_explore::Lists;
 use scxsim_output::Text;
-use scxsim_simulation::read_scenario;
+use scxsim_runs::read_scenario;
 use std::alloc::{AllocError, Global};
 
 /// The most names that are listed.

@@ -7,7 +7,7 @@ use Rattle.scx_isa_semantics.specs.declared.callbacks.Callback.{Callback}
 use Rattle.scx_isa_semantics.specs.declared.callbacks.Callback.TheVariants as callback
 use Rattle.scx_vm.specs.Programs.{VerifiedProgram}
 use Rattle.scx_vm.specs.declared.context.Context.{Context}
-use Rattle.scx_sched_machine.specs.Policy.{PolicyState, Programs}
+use Rattle.scx_sched_policy.specs.Policy.{PolicyState, Programs}
 use Rattle.scx_sched_machine.specs.Start.{first_state}
 use Rattle.scx_sched.specs.Sim.{SimState}
 use Rattle.scx_load_policies.specs.Policies.{PolicyFile, program_of}
@@ -17,8 +17,9 @@ use Rattle.scx_load_workloads.specs.Reading.{workload_by}
 use Rattle.scx_load_workloads.specs.Workload.{WorkloadState, first_tree}
 use Rattle.scx_load_replay.specs.Reading.{replay_by}
 use Rattle.scx_load_replay.specs.Replay.{ReplayState}
-use Rattle.scxsim_simulation.specs.Runs.{IsBegun, trace_text, report_text}
-use Rattle.scxsim_simulation.specs.Replays.{replay_text}
+use Rattle.scxsim_runs.specs.Runs.{IsBegun}
+use Rattle.scxsim_simulation.specs.Traces.{trace_text, report_text}
+use Rattle.scxsim_simulation.specs.Traces.{replay_text}
 use Rattle.scxsim_simulation.specs.Determinism.{TextsDetermineRuns, TextsDetermineTraces, TextsDetermineReports, TextsDetermineReplays, TextsDetermineReplayTraces}
 
 -- a reading comes to one thing

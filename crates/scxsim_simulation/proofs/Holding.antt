@@ -3,7 +3,7 @@ use Rattle.std.proofs.Common.{◌≡◌, ℕ, List, [], ◌∷◌, ◌++◌, Opt
 use Rattle.std.specs.List.{AllByRecursion}
 use Rattle.scx_sched_machine.specs.declared.events.Event.{Event}
 use Rattle.scx_sched_machine.specs.Callbacks.{AreAnswered}
-use Rattle.scx_sched_machine.specs.Policy.{PolicyState, IsTimeout}
+use Rattle.scx_sched_policy.specs.Policy.{PolicyState, IsTimeout}
 use Rattle.scx_sched_machine.proofs.Taking.{answered_append}
 use Rattle.scx_sched.specs.Sim.{SimState, after_event, calls_of}
 use Rattle.scx_sched.specs.Once.{IsOnce}
@@ -16,9 +16,10 @@ use Rattle.scx_load_driver.proofs.Going.{follows_before}
 use Rattle.scx_load_driver.proofs.Whole.{run_notes, run_last, run_never_stuck, run_once, run_counted, run_timely, run_bounded, run_follows}
 use Rattle.scxsim_trace.specs.Lines.{NameLists, names_of}
 use Rattle.scxsim_trace.specs.Runs.{IsInOrder, StaysInOrder, StopsAtFailure}
-use Rattle.scxsim_simulation.specs.Runs.{IsBegun, run_of, IsOfHeadline, IsCutOff}
+use Rattle.scxsim_runs.specs.Runs.{IsBegun}
+use Rattle.scxsim_simulation.specs.Traces.{run_of, IsOfHeadline, IsCutOff}
 use Rattle.scxsim_simulation.proofs.Belonging.{is_that_machine}
-use Rattle.scxsim_simulation.proofs.Shapes.{shape_is_right}
+use Rattle.scxsim_runs.proofs.Shapes.{shape_is_right}
 
 all_answered : (s : SimState) (events : List Event) → StaysInOrder s events → AreAnswered (calls_of_all s events)
 all_answered s [] h = tt

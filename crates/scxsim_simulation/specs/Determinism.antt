@@ -4,8 +4,10 @@ use Rattle.std.specs.Io.KnownBytes.{Appends}
 use Rattle.scx_sched.specs.Sim.{SimState}
 use Rattle.scx_load_workloads.specs.Workload.{WorkloadState}
 use Rattle.scx_load_replay.specs.Replay.{ReplayState}
-use Rattle.scxsim_simulation.specs.Runs.{IsRun, trace_text, report_text}
-use Rattle.scxsim_simulation.specs.Replays.{IsReplayRun, replay_text}
+use Rattle.scxsim_runs.specs.Runs.{IsRun}
+use Rattle.scxsim_simulation.specs.Traces.{trace_text, report_text}
+use Rattle.scxsim_runs.specs.Replays.{IsReplayRun}
+use Rattle.scxsim_simulation.specs.Traces.{replay_text}
 
 -- ---- a workload
 

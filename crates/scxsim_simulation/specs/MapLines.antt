@@ -12,12 +12,8 @@ use Rattle.scx_isa_semantics.specs.Serving.{slot_count}
 use Rattle.scx_maps.specs.Laws.{value_at, listed}
 use Rattle.scx_sched.specs.Sim.{SimState}
 use Rattle.scx_load_replay.specs.declared.scenario.Scenario.{Scenario}
-use Rattle.scxsim_simulation.specs.Scenarios.{last_in}
-
--- the pieces of all numbers below that one, in their order
-abbrev pub all_below : (ℕ → List ℕ) → ℕ → List ℕ
-all_below piece zero = []
-all_below piece (suc n) = all_below piece n ++ piece n
+use Rattle.scxsim_output.specs.Texts.{all_below}
+use Rattle.scxsim_runs.specs.Scenarios.{last_in}
 
 -- ---- values
 

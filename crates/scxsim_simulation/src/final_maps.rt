@@ -6,16 +6,14 @@ ghost use Rattle.scx_load_replay.specs.Scenarios.{scenario_events};
 ghost use Rattle.scx_load_replay.specs.Sources.{remaining};
 ghost use Rattle.scxsim_output.specs.Output.{HasFailed, AppendsBeginning};
 ghost use Rattle.scxsim_commands.specs.Outcome.{IfRefused, IsRefused};
-ghost use Rattle.scxsim_simulation.specs.Scenarios.{IsScenarioRun, IsScenarioCause};
+ghost use Rattle.scxsim_runs.specs.Scenarios.{IsScenarioRun, IsScenarioCause};
 ghost use Rattle.scxsim_simulation.specs.MapLines.{map_lines, maps_text};
 
-use crate::listener::{Heard, Listener};
 use crate::map_lines::push_maps;
-use crate::preparing::give_back;
-use crate::scenarios::{ScenarioRun, prepare_scenario};
 use scx_maps::Maps;
 use scxsim_commands::{Fault, Refusal};
 use scxsim_output::{Out, Text, write_all};
+use scxsim_runs::{Heard, Listener, ScenarioRun, give_back, prepare_scenario};
 use scxsim_trace::run_silently;
 use std::alloc::{AllocError, Global};
 

@@ -3,8 +3,8 @@ ghost use Rattle.scx_isa_semantics.specs.Directories.{copies};
 ghost use Rattle.scx_isa_semantics.specs.Elements.{count, directory};
 ghost use Rattle.scx_isa_semantics.specs.Serving.{slot_count};
 ghost use Rattle.scx_maps.specs.Laws.{value_at, listed};
-ghost use Rattle.scxsim_output.specs.Texts.{Puts};
-ghost use Rattle.scxsim_simulation.specs.MapLines.{all_below, array_lines, copy_line, copy_lines, hash_lines, held_in, held_line, if_there, key_line, kind_lines, map_lines, pop_line, queue_lines, stack_lines, unless_zero};
+ghost use Rattle.scxsim_output.specs.Texts.{Puts, all_below};
+ghost use Rattle.scxsim_simulation.specs.MapLines.{array_lines, copy_line, copy_lines, hash_lines, held_in, held_line, if_there, key_line, kind_lines, map_lines, pop_line, queue_lines, stack_lines, unless_zero};
 
 use crate::map_places::{held_key, key_slots, line_length, slots_of, value_at, value_in_line};
 use crate::map_values::{is_nonzero, push_value};
@@ -15,7 +15,7 @@ use scxsim_output::Text;
 const COPIES: u32 = 64;
 
 /// Appends a line for each element that isn't zero, and for each value that a hash, a queue or a stack has.
-#[tactic(auto, using(crate::proofs::Pieces::puts_next))]
+#[tactic(auto, using(scxsim_output::proofs::Pieces::puts_next))]
 pub fn push_maps(maps: &Maps, text: &mut Text)
     ensures { Puts text.old (map_lines maps.now) text.new }
 {
@@ -38,7 +38,7 @@ fn push_map(maps: &Maps, map: u8, text: &mut Text)
     }
 }
 
-#[tactic(auto, using(crate::proofs::Pieces::puts_next))]
+#[tactic(auto, using(scxsim_output::proofs::Pieces::puts_next))]
 fn push_array(maps: &Maps, map: u8, text: &mut Text)
     requires { map < count maps.now }
     ensures { Puts text.old (array_lines maps.now map) text.new }
@@ -72,7 +72,7 @@ fn push_key(map: u8, key: u64, value: &[u8], text: &mut Text)
     push_value(value, text);
 }
 
-#[tactic(auto, using(crate::proofs::Pieces::puts_next))]
+#[tactic(auto, using(scxsim_output::proofs::Pieces::puts_next))]
 fn push_copies(maps: &Maps, map: u8, text: &mut Text)
     requires { map < count maps.now }
     ensures { Puts text.old (all_below (copy_lines maps.now map) copies) text.new }
@@ -84,7 +84,7 @@ fn push_copies(maps: &Maps, map: u8, text: &mut Text)
 }
 
 /// Appends the lines of a CPU's copy, which has that many keys.
-#[tactic(auto, using(crate::proofs::Pieces::puts_next))]
+#[tactic(auto, using(scxsim_output::proofs::Pieces::puts_next))]
 fn push_copy(maps: &Maps, map: u8, cpu: u64, keys: u32, text: &mut Text)
     requires map { map < count maps.now }
     requires keys { keys ≡ slot_count maps.now map / copies }
@@ -112,7 +112,7 @@ fn push_copied(maps: &Maps, map: u8, cpu: u64, key: u64, text: &mut Text)
     }
 }
 
-#[tactic(auto, using(crate::proofs::Pieces::puts_next))]
+#[tactic(auto, using(scxsim_output::proofs::Pieces::puts_next))]
 fn push_hash(maps: &Maps, map: u8, text: &mut Text)
     requires { map < count maps.now }
     ensures { Puts text.old (hash_lines maps.now map) text.new }
@@ -134,7 +134,7 @@ fn push_held(maps: &Maps, map: u8, held: Option<u64>, text: &mut Text)
     }
 }
 
-#[tactic(auto, using(crate::proofs::Pieces::puts_next))]
+#[tactic(auto, using(scxsim_output::proofs::Pieces::puts_next))]
 fn push_queue(maps: &Maps, map: u8, text: &mut Text)
     requires { map < count maps.now }
     ensures { Puts text.old (queue_lines maps.now map) text.new }
@@ -145,7 +145,7 @@ fn push_queue(maps: &Maps, map: u8, text: &mut Text)
     }
 }
 
-#[tactic(auto, using(crate::proofs::Pieces::puts_next))]
+#[tactic(auto, using(scxsim_output::proofs::Pieces::puts_next))]
 fn push_stack(maps: &Maps, map: u8, text: &mut Text)
     requires { map < count maps.now }
     ensures { Puts text.old (stack_lines maps.now map) text.new }

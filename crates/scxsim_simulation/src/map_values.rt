@@ -62,7 +62,7 @@ fn push_end(zeros: usize, text: &mut Text)
     }
 }
 
-#[tactic(auto, using(crate::proofs::Pieces::puts_next))]
+#[tactic(auto, using(scxsim_output::proofs::Pieces::puts_next))]
 fn push_numbers(bytes: &[u8], text: &mut Text)
     ensures { Puts text.old (numbers_text bytes.now) text.new }
 {
@@ -81,7 +81,7 @@ fn push_number(bytes: &[u8], place: usize, text: &mut Text)
     text.number(" ", LittleEndian::read_uint(rest, width));
 }
 
-#[tactic(auto, using(crate::proofs::Pieces::puts_next))]
+#[tactic(auto, using(scxsim_output::proofs::Pieces::puts_next))]
 fn push_bytes(bytes: &[u8], text: &mut Text)
     ensures { Puts text.old (bytes_text bytes.now) text.new }
 {

@@ -7,12 +7,12 @@ ghost use Rattle.scx_load_driver.specs.Events.{workload_events};
 ghost use Rattle.scxsim_output.specs.Output.{Counts, HasFailed, AppendsBeginning};
 ghost use Rattle.scxsim_commands.specs.Outcome.{IfRefused, IsRefused};
 ghost use Rattle.scxsim_trace.specs.Runs.{StaysInOrder};
-ghost use Rattle.scxsim_simulation.specs.Runs.{IsRun, IsCause, IsOfHeadline, report_text};
+ghost use Rattle.scxsim_runs.specs.Runs.{IsRun, IsCause};
+ghost use Rattle.scxsim_simulation.specs.Traces.{IsOfHeadline, report_text};
 
-use crate::listener::{Heard, Listener};
-use crate::preparing::{Run, give_back, prepare};
 use scxsim_commands::Fault;
 use scxsim_output::{Failed, Out};
+use scxsim_runs::{Heard, Listener, Run, give_back, prepare};
 use scxsim_trace::{run_silently, write_report};
 use std::alloc::Global;
 

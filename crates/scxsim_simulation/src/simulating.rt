@@ -8,13 +8,14 @@ ghost use Rattle.scxsim_output.specs.Output.{Counts, HasFailed, AppendsBeginning
 ghost use Rattle.scxsim_commands.specs.Outcome.{IfRefused, IsRefused};
 ghost use Rattle.scxsim_trace.specs.Lines.{names_of, note_lines};
 ghost use Rattle.scxsim_trace.specs.Runs.{StaysInOrder, StopsAtFailure};
-ghost use Rattle.scxsim_simulation.specs.Runs.{IsRun, IsCause, IsOfHeadline, IsCutOff, trace_text};
+ghost use Rattle.scxsim_runs.specs.Runs.{IsRun, IsCause};
+ghost use Rattle.scxsim_simulation.specs.Traces.{IsOfHeadline, IsCutOff, trace_text};
 
-use crate::listener::{Heard, Listener};
-use crate::preparing::{Run, give_back, prepare};
+use scx_load_driver::Events;
 use scxsim_commands::Fault;
 use scxsim_output::{Failed, Out};
-use scxsim_trace::{Events, write_run};
+use scxsim_runs::{Heard, Listener, Run, give_back, prepare};
+use scxsim_trace::write_run;
 use std::alloc::Global;
 
 /// Writes the trace of the run of a policy file's text and a workload file's. The answer is true.

@@ -11,9 +11,9 @@ use Rattle.scx_load_replay.specs.Replay.{ReplayState}
 use Rattle.scx_load_replay.specs.Events.{replay_events}
 use Rattle.scx_load_replay.specs.declared.scenario.Scenario.{Scenario}
 use Rattle.scx_load_replay.specs.Scenarios.{workload_of, scenario_events}
-use Rattle.scxsim_simulation.specs.Runs.{name_in}
-use Rattle.scxsim_simulation.specs.Scenarios.{IsScenarioRun}
-use Rattle.scxsim_simulation.specs.Replays.{IsReplayRun}
+use Rattle.scxsim_runs.specs.Runs.{name_in}
+use Rattle.scxsim_runs.specs.Scenarios.{IsScenarioRun}
+use Rattle.scxsim_runs.specs.Replays.{IsReplayRun}
 use Rattle.scxsim_statistics.specs.declared.gathering.Figures.{Figures}
 use Rattle.scxsim_statistics.specs.Figures.{AreOfRun, AreOfTexts, AreOfEvents, of_figures}
 use Rattle.scxsim_statistics.proofs.Staying.{tasks_stay}

@@ -1,6 +1,6 @@
 -- Words and numbers in tables and in lists of values.
 use Rattle.std.specs.Prelude.{ℕ, ◌-◌, ◌/◌, ◌%◌, List, ◌++◌, codes, decimal, length, replicate, slice_index}
-use Rattle.scxsim_simulation.specs.MapLines.{all_below}
+use Rattle.scxsim_output.specs.Texts.{all_below}
 
 -- words with spaces after them, up to `width` bytes
 unfoldable pub left : ℕ → List ℕ → List ℕ

@@ -14,11 +14,11 @@ use Rattle.scxsim_trace.specs.Report.{ran_ms}
 use Rattle.scx_load_workloads.specs.Workload.{WorkloadState}
 use Rattle.scx_load_replay.specs.Replay.{ReplayState}
 use Rattle.scx_load_replay.specs.Events.{replay_events}
-use Rattle.scxsim_simulation.specs.Runs.{name_in}
-use Rattle.scxsim_simulation.specs.Scenarios.{IsScenarioRun}
+use Rattle.scxsim_runs.specs.Runs.{name_in}
+use Rattle.scxsim_runs.specs.Scenarios.{IsScenarioRun}
 use Rattle.scx_load_replay.specs.declared.scenario.Scenario.{Scenario}
 use Rattle.scx_load_replay.specs.Scenarios.{workload_of, scenario_events}
-use Rattle.scxsim_simulation.specs.Replays.{IsReplayRun}
+use Rattle.scxsim_runs.specs.Replays.{IsReplayRun}
 use Rattle.scxsim_views.specs.declared.pauses.Doing.{Doing}
 use Rattle.scxsim_views.specs.declared.pauses.Doing.TheVariants.{Sleeps}
 use Rattle.scxsim_views.specs.declared.pauses.Pause.{Pause}

@@ -12,10 +12,11 @@ use crate::groups::{GroupFigures, group_figures};
 use crate::latencies::LatencyFigures;
 use crate::losses::Losses;
 use crate::tally::{CpuFigures, RunTally, TaskFigures};
+use scx_load_driver::Events;
 use scx_load_workloads::Workload;
 use scx_sched::{Eject, Event, Sim, What};
-use scxsim_simulation::{Heard, Listener, Run, give_back};
-use scxsim_trace::{Events, Observer, observe};
+use scxsim_runs::{Heard, Listener, Run, give_back};
+use scxsim_trace::{Observer, observe};
 use scxsim_views::{Dues, Quotas};
 use std::alloc::{AllocError, Global};
 

@@ -32,7 +32,7 @@ fn write_fraction(number: u64, page: &mut Text)
 }
 
 /// Writes numbers with spaces before them, nine characters each.
-#[tactic(auto, unfolding(crate::specs::Cells::right, crate::specs::Cells::numbers_right), using(scxsim_simulation::proofs::Pieces::puts_next))]
+#[tactic(auto, unfolding(crate::specs::Cells::right, crate::specs::Cells::numbers_right), using(scxsim_output::proofs::Pieces::puts_next))]
 pub fn write_numbers(numbers: &[u64], page: &mut Text)
     ensures { Puts page.old (numbers_right numbers.now) page.new }
 {

@@ -2,15 +2,15 @@ ghost use Rattle.std.specs.Prelude.{◌≡◌, IfOk, IfErr};
 ghost use Rattle.scx_load_replay.specs.declared.scenario.Scenario.{Scenario};
 ghost use Rattle.scx_load_replay.specs.Scenarios.{workload_of, scenario_events};
 ghost use Rattle.scx_load_replay.specs.Sources.{remaining};
-ghost use Rattle.scxsim_simulation.specs.Scenarios.{IsScenarioRun, IsScenarioCause};
-ghost use Rattle.scxsim_simulation.specs.Replays.{IsReplayCause};
+ghost use Rattle.scxsim_runs.specs.Scenarios.{IsScenarioRun, IsScenarioCause};
+ghost use Rattle.scxsim_runs.specs.Replays.{IsReplayCause};
 ghost use Rattle.scxsim_statistics.specs.Figures.{AreOfRun, AreOfTexts, AreOfEvents, of_figures};
 
 use crate::gathering::{Figures, gather};
 use scx_load_replay::Source;
 use scx_sched::Sim;
 use scxsim_commands::Refusal;
-use scxsim_simulation::{Listener, Run, ScenarioRun, prepare_replay, prepare_scenario};
+use scxsim_runs::{Listener, Run, ScenarioRun, prepare_replay, prepare_scenario};
 use std::alloc::{AllocError, Global};
 
 /// The figures of the run of a policy file's text and of a workload's or of a file of events.

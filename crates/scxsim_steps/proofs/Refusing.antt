@@ -7,7 +7,7 @@ use Rattle.scx_load_replay.specs.declared.scenario.Scenario.{Scenario}
 use Rattle.scx_load_replay.specs.Scenarios.{workload_of, scenario_events}
 use Rattle.scx_sched.specs.Sim.{SimState}
 use Rattle.scxsim_trace.specs.Lines.{names_of}
-use Rattle.scxsim_simulation.specs.Scenarios.{IsScenarioRun}
+use Rattle.scxsim_runs.specs.Scenarios.{IsScenarioRun}
 use Rattle.scxsim_steps.specs.Moments.{Says, IsMoment}
 use Rattle.scxsim_steps.specs.Stepping.{notes_within, HasLines, IsStepped, IsOutside, IsAnswer}
 

@@ -7,7 +7,7 @@ use Rattle.scx_sched.specs.Sim.{SimState, after_event, notes_of}
 use Rattle.scx_load_replay.specs.declared.scenario.Scenario.{Scenario}
 use Rattle.scx_load_replay.specs.Scenarios.{workload_of, scenario_events}
 use Rattle.scxsim_trace.specs.Lines.{NameLists, names_of, note_line}
-use Rattle.scxsim_simulation.specs.Scenarios.{IsScenarioRun}
+use Rattle.scxsim_runs.specs.Scenarios.{IsScenarioRun}
 use Rattle.scxsim_steps.specs.Moments.{IsMoment}
 
 -- the notes of a millisecond among those of events, up to the first event that comes after it

@@ -5,19 +5,19 @@ ghost use Rattle.scx_load_replay.specs.Sources.{remaining};
 ghost use Rattle.scxsim_trace.specs.Lines.{names_of};
 ghost use Rattle.scxsim_output.specs.Output.{HasFailed};
 ghost use Rattle.scxsim_commands.specs.Outcome.{IfRefused, IsRefused};
-ghost use Rattle.scxsim_simulation.specs.Scenarios.{IsScenarioCause};
+ghost use Rattle.scxsim_runs.specs.Scenarios.{IsScenarioCause};
 ghost use Rattle.scxsim_steps.specs.Stepping.{notes_within, HasLines, IsStepped, IsOutside, IsAnswer};
 
 use crate::moments::moment_in;
 use crate::starting::text_of_start;
 use crate::stepper::Stepper;
 use crate::until::go_until;
+use scx_load_driver::Events;
 use scx_load_workloads::Workload;
 use scx_sched::Sim;
 use scxsim_commands::{Fault, Refusal};
 use scxsim_output::{Out, write_all};
-use scxsim_simulation::{Heard, Listener, ScenarioRun, give_back, prepare_scenario};
-use scxsim_trace::Events;
+use scxsim_runs::{Heard, Listener, ScenarioRun, give_back, prepare_scenario};
 use std::alloc::{AllocError, Global};
 
 /// Writes what happens in that millisecond, by the clock of a trace, of the run of a policy file and of a workload file

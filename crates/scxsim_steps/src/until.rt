@@ -2,8 +2,9 @@ ghost use Rattle.std.specs.Prelude.{◌≡◌};
 ghost use Rattle.scxsim_steps.specs.Stepping.{events_within, notes_within, GrowsBy};
 
 use crate::stepper::Stepper;
+use scx_load_driver::Events;
 use scx_sched::{Event, Sim};
-use scxsim_trace::{Events, go_through};
+use scxsim_trace::go_through;
 
 /// The events of a run up to the end of a millisecond.
 #[derive(Drop)]

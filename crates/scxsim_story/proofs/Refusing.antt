@@ -8,8 +8,8 @@ use Rattle.scx_load_driver.specs.Runs.{notes_of_all}
 use Rattle.scx_sched.specs.Sim.{SimState}
 use Rattle.scxsim_commands.specs.declared.refusal.Refusal.{Refusal}
 use Rattle.scxsim_commands.specs.declared.refusal.Refusal.TheVariants.{NoMemory, NoSuchTask}
-use Rattle.scxsim_simulation.specs.Scenarios.{IsScenarioRun, IsScenarioCause}
-use Rattle.scxsim_simulation.proofs.PartCauses.{scenario_is_read}
+use Rattle.scxsim_runs.specs.Scenarios.{IsScenarioRun, IsScenarioCause}
+use Rattle.scxsim_runs.proofs.PartCauses.{scenario_is_read}
 use Rattle.scx_sched_world.specs.declared.notes.Note.{Note}
 use Rattle.scxsim_views.specs.BoundTasks.{bound_mask}
 use Rattle.scxsim_story.specs.declared.subject.Subject.{Subject}

@@ -10,7 +10,7 @@ use Rattle.scxsim_trace.specs.Lines.{names_of, task_name}
 use Rattle.scxsim_views.specs.BoundTasks.{bound_mask}
 use Rattle.scxsim_commands.specs.declared.refusal.Refusal.{Refusal}
 use Rattle.scxsim_commands.specs.declared.refusal.Refusal.TheVariants.{NoSuchTask}
-use Rattle.scxsim_simulation.specs.Scenarios.{IsScenarioRun, IsScenarioRead, IsScenarioCause}
+use Rattle.scxsim_runs.specs.Scenarios.{IsScenarioRun, IsScenarioRead, IsScenarioCause}
 use Rattle.scxsim_story.specs.declared.subject.Subject.{Subject}
 use Rattle.scxsim_story.specs.Occurrences.{occurrences, Tells}
 

@@ -12,12 +12,13 @@ ghost use Rattle.scxsim_story.specs.Stories.{IsNoTask, IsStory, IsStoryCause, Is
 use crate::opening::opening_of;
 use crate::storyteller::Storyteller;
 use crate::subject::{Subject, subject_of};
+use scx_load_driver::Events;
 use scx_load_workloads::Workload;
 use scx_sched::Sim;
 use scxsim_commands::{Fault, Refusal};
 use scxsim_output::{Out, write_all};
-use scxsim_simulation::{Heard, Listener, ScenarioRun, give_back, prepare_scenario};
-use scxsim_trace::{Events, observe};
+use scxsim_runs::{Heard, Listener, ScenarioRun, give_back, prepare_scenario};
+use scxsim_trace::observe;
 use std::alloc::{AllocError, Global};
 
 /// Writes the story of the task of that name in the run of the texts of a policy file and of a workload file or a file

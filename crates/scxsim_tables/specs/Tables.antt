@@ -12,7 +12,7 @@ use Rattle.scxsim_statistics.specs.declared.latencies.LatencyFigures.{LatencyFig
 use Rattle.scxsim_views.specs.declared.quotas.QuotaFigures.{QuotaFigures}
 use Rattle.scxsim_statistics.specs.declared.tally.CpuFigures.{CpuFigures}
 use Rattle.scxsim_statistics.specs.declared.tally.TaskFigures.{TaskFigures}
-use Rattle.scxsim_simulation.specs.MapLines.{all_below}
+use Rattle.scxsim_output.specs.Texts.{all_below}
 use Rattle.scxsim_statistics.specs.Cells.{left, right, numbers_right, hundredths_right}
 use Rattle.scxsim_statistics.specs.Numbered.{task_name, group_name, of_task, latencies_of, waits_of_group, of_cpu, of_group, limit_of, has_quota}
 

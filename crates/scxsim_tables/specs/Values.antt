@@ -15,7 +15,7 @@ use Rattle.scxsim_statistics.specs.declared.latencies.LatencyFigures.{LatencyFig
 use Rattle.scxsim_views.specs.declared.quotas.QuotaFigures.{QuotaFigures}
 use Rattle.scxsim_statistics.specs.declared.tally.CpuFigures.{CpuFigures}
 use Rattle.scxsim_statistics.specs.declared.tally.TaskFigures.{TaskFigures}
-use Rattle.scxsim_simulation.specs.MapLines.{all_below}
+use Rattle.scxsim_output.specs.Texts.{all_below}
 use Rattle.scxsim_tables.specs.declared.wait_values.LengthNames.{LengthNames}
 use Rattle.scxsim_statistics.specs.Cells.{hundredths}
 use Rattle.scxsim_statistics.specs.Numbered.{task_name, group_name, of_task, bursts_of, latencies_of, waits_of_group, of_cpu, lost_of, of_group, limit_of, has_quota}

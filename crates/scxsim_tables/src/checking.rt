@@ -2,7 +2,7 @@ ghost use Rattle.std.specs.Prelude.{◌≡◌, ℕ, List, Err, IfOk, IfErr, OnOk
 ghost use Rattle.std.specs.Io.KnownBytes.{Appends};
 ghost use Rattle.scxsim_output.specs.Output.{HasFailed, AppendsBeginning};
 ghost use Rattle.scxsim_commands.specs.Outcome.{IfRefused, IsRefused};
-ghost use Rattle.scxsim_simulation.specs.Scenarios.{IsScenarioCause};
+ghost use Rattle.scxsim_runs.specs.Scenarios.{IsScenarioCause};
 ghost use Rattle.scxsim_statistics.specs.Figures.{AreOfTexts};
 ghost use Rattle.scxsim_statistics.specs.declared.gathering.Figures.{Figures as AllFigures};
 ghost use Rattle.scxsim_tables.specs.Tables.{check_line, is_in_force};
@@ -11,7 +11,7 @@ use crate::tables::write_check;
 use crate::telling::figures_and_words;
 use scxsim_commands::{Fault, Refusal};
 use scxsim_output::{Out, Text, write_all};
-use scxsim_simulation::Listener;
+use scxsim_runs::Listener;
 use scxsim_statistics::Figures;
 use std::alloc::{AllocError, Global};
 

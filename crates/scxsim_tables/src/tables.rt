@@ -1,6 +1,6 @@
 ghost use Rattle.std.specs.Prelude.{◌<◌, length};
 ghost use Rattle.scxsim_output.specs.Texts.{Puts};
-ghost use Rattle.scxsim_simulation.specs.MapLines.{all_below};
+ghost use Rattle.scxsim_output.specs.Texts.{all_below};
 ghost use Rattle.scxsim_tables.specs.Tables.{wait_cells, task_cells, parked_cell, task_row, task_heads, task_table, cpu_line, cpu_row, cpu_table, group_line, group_row, group_table, quota_cells, quota_row, quota_rows, quota_table, when_ejected, stall_end, fault_end, exit_end, policy_end, policy_row, check_line, last_rows, lower_rows, table_rows};
 
 use crate::wait_tables::{write_group_percents, write_task_percents};
@@ -201,7 +201,7 @@ fn write_heads(figures: &Figures, page: &mut Text)
     }
 }
 
-#[tactic(auto, using(scxsim_simulation::proofs::Pieces::puts_next))]
+#[tactic(auto, using(scxsim_output::proofs::Pieces::puts_next))]
 fn write_task_rows(figures: &Figures, page: &mut Text)
     ensures { Puts page.old
         (all_below (task_row figures.now) (length figures.now.tasks.items)) page.new }
@@ -261,7 +261,7 @@ fn write_cpus(figures: &Figures, page: &mut Text)
     write_cpu_rows(figures, page);
 }
 
-#[tactic(auto, using(scxsim_simulation::proofs::Pieces::puts_next))]
+#[tactic(auto, using(scxsim_output::proofs::Pieces::puts_next))]
 fn write_cpu_rows(figures: &Figures, page: &mut Text)
     ensures { Puts page.old
         (all_below (cpu_row figures.now) (length figures.now.cpus.items)) page.new }
@@ -289,7 +289,7 @@ fn write_groups(figures: &Figures, page: &mut Text)
     write_group_rows(figures, page);
 }
 
-#[tactic(auto, using(scxsim_simulation::proofs::Pieces::puts_next))]
+#[tactic(auto, using(scxsim_output::proofs::Pieces::puts_next))]
 fn write_group_rows(figures: &Figures, page: &mut Text)
     ensures { Puts page.old
         (all_below (group_row figures.now) (length figures.now.groups.items)) page.new }
@@ -328,7 +328,7 @@ fn write_quota_table(figures: &Figures, page: &mut Text)
     write_quota_rows(figures, page);
 }
 
-#[tactic(auto, using(scxsim_simulation::proofs::Pieces::puts_next))]
+#[tactic(auto, using(scxsim_output::proofs::Pieces::puts_next))]
 fn write_quota_rows(figures: &Figures, page: &mut Text)
     ensures { Puts page.old
         (all_below (quota_row figures.now) (length figures.now.quotas.groups.items)) page.new }

@@ -3,8 +3,8 @@ ghost use Rattle.std.specs.Io.KnownBytes.{Appends};
 ghost use Rattle.scxsim_output.specs.Output.{Counts, HasFailed, AppendsBeginning};
 ghost use Rattle.scxsim_commands.specs.declared.refusal.Refusal.TheVariants.{NoMemory};
 ghost use Rattle.scxsim_commands.specs.Outcome.{IfRefused, IsRefused};
-ghost use Rattle.scxsim_simulation.specs.Scenarios.{IsScenarioCause};
-ghost use Rattle.scxsim_simulation.specs.Replays.{IsReplayCause};
+ghost use Rattle.scxsim_runs.specs.Scenarios.{IsScenarioCause};
+ghost use Rattle.scxsim_runs.specs.Replays.{IsReplayCause};
 ghost use Rattle.scxsim_statistics.specs.Figures.{AreOfTexts, AreOfEvents};
 ghost use Rattle.scxsim_statistics.specs.declared.gathering.Figures.{Figures as AllFigures};
 ghost use Rattle.scxsim_tables.specs.Tables.{table_rows, tables, is_for_callback};
@@ -16,7 +16,7 @@ use scx_sched::Eject;
 use scxsim_commands::{Fault, Refusal};
 use scxsim_faults::{FaultPlace, find_fault_among};
 use scxsim_output::{Failed, Out, Text, write_all};
-use scxsim_simulation::Listener;
+use scxsim_runs::Listener;
 use scxsim_statistics::{
     Figures, FiguresAndStart, Start, figures, figures_and_start, replay_figures,
 };

@@ -1,6 +1,6 @@
 ghost use Rattle.std.specs.Prelude.{◌<◌, length, codes, decimal};
 ghost use Rattle.scxsim_output.specs.Texts.{Puts};
-ghost use Rattle.scxsim_simulation.specs.MapLines.{all_below};
+ghost use Rattle.scxsim_output.specs.Texts.{all_below};
 ghost use Rattle.scxsim_statistics.specs.Cells.{hundredths};
 ghost use Rattle.scxsim_statistics.specs.Numbered.{bursts_of};
 ghost use Rattle.scxsim_tables.specs.Values.{start, line, wait_lines, longest_lines, stop_lines, most_lines, percent_lines, length_lines, burst_lines, burst_lines_of, task_values, cpu_lines, lost_line, cpu_values, group_lines, group_values, parked_value, use_lines, throttle_lines, period_lines, quota_lines, quota_values, limit_values, ending, ejected_line, policy_values, value_rows};
@@ -31,7 +31,7 @@ pub(crate) fn write_list(figures: &Figures, page: &mut Text)
     list_wait_values(figures, page);
 }
 
-#[tactic(auto, using(scxsim_simulation::proofs::Pieces::puts_next))]
+#[tactic(auto, using(scxsim_output::proofs::Pieces::puts_next))]
 fn list_tasks(figures: &Figures, page: &mut Text)
     ensures { Puts page.old
         (all_below (task_values figures.now) (length figures.now.tasks.items)) page.new }
@@ -41,7 +41,7 @@ fn list_tasks(figures: &Figures, page: &mut Text)
     }
 }
 
-#[tactic(auto, using(scxsim_simulation::proofs::Pieces::puts_next))]
+#[tactic(auto, using(scxsim_output::proofs::Pieces::puts_next))]
 fn list_cpus(figures: &Figures, page: &mut Text)
     ensures { Puts page.old
         (all_below (cpu_values figures.now) (length figures.now.cpus.items)) page.new }
@@ -51,7 +51,7 @@ fn list_cpus(figures: &Figures, page: &mut Text)
     }
 }
 
-#[tactic(auto, using(scxsim_simulation::proofs::Pieces::puts_next))]
+#[tactic(auto, using(scxsim_output::proofs::Pieces::puts_next))]
 fn list_groups(figures: &Figures, page: &mut Text)
     ensures { Puts page.old
         (all_below (group_values figures.now) (length figures.now.groups.items)) page.new }
@@ -73,7 +73,7 @@ fn list_limits(figures: &Figures, page: &mut Text)
 }
 
 /// Writes the parked time of each task.
-#[tactic(auto, using(scxsim_simulation::proofs::Pieces::puts_next))]
+#[tactic(auto, using(scxsim_output::proofs::Pieces::puts_next))]
 fn list_parked(figures: &Figures, page: &mut Text)
     ensures { Puts page.old
         (all_below (parked_value figures.now) (length figures.now.tasks.items)) page.new }
@@ -91,7 +91,7 @@ fn list_parked(figures: &Figures, page: &mut Text)
 }
 
 /// Writes the figures of each group that has a quota.
-#[tactic(auto, using(scxsim_simulation::proofs::Pieces::puts_next))]
+#[tactic(auto, using(scxsim_output::proofs::Pieces::puts_next))]
 fn list_quotas(figures: &Figures, page: &mut Text)
     ensures { Puts page.old
         (all_below (quota_values figures.now) (length figures.now.quotas.groups.items)) page.new }

@@ -1,6 +1,6 @@
 ghost use Rattle.std.specs.Prelude.{◌<◌, length};
 ghost use Rattle.scxsim_output.specs.Texts.{Puts};
-ghost use Rattle.scxsim_simulation.specs.MapLines.{all_below};
+ghost use Rattle.scxsim_output.specs.Texts.{all_below};
 ghost use Rattle.scxsim_tables.specs.Tables.{percent_cells, percent_line, task_percents, group_percents, task_percent_table, group_percent_table};
 
 use scxsim_output::Text;
@@ -21,7 +21,7 @@ pub(crate) fn write_task_percents(figures: &Figures, page: &mut Text)
     write_task_lines(figures, page);
 }
 
-#[tactic(auto, using(scxsim_simulation::proofs::Pieces::puts_next))]
+#[tactic(auto, using(scxsim_output::proofs::Pieces::puts_next))]
 fn write_task_lines(figures: &Figures, page: &mut Text)
     ensures { Puts page.old
         (all_below (task_percents figures.now) (length figures.now.tasks.items)) page.new }
@@ -53,7 +53,7 @@ pub(crate) fn write_group_percents(figures: &Figures, page: &mut Text)
     write_group_lines(figures, page);
 }
 
-#[tactic(auto, using(scxsim_simulation::proofs::Pieces::puts_next))]
+#[tactic(auto, using(scxsim_output::proofs::Pieces::puts_next))]
 fn write_group_lines(figures: &Figures, page: &mut Text)
     ensures { Puts page.old
         (all_below (group_percents figures.now) (length figures.now.groups.items)) page.new }

@@ -1,6 +1,6 @@
 ghost use Rattle.std.specs.Prelude.{◌<◌, ◌++◌, length, codes};
 ghost use Rattle.scxsim_output.specs.Texts.{Puts};
-ghost use Rattle.scxsim_simulation.specs.MapLines.{all_below};
+ghost use Rattle.scxsim_output.specs.Texts.{all_below};
 ghost use Rattle.scxsim_statistics.specs.Numbered.{latencies_of};
 ghost use Rattle.scxsim_tables.specs.Values.{labels, group_wait_labels, group_latency_labels, half_lines, percentile_lines, counted_lines, latency_lines, latency_lines_of, task_waits, group_waits, wait_values};
 
@@ -51,7 +51,7 @@ pub(crate) fn list_wait_values(figures: &Figures, page: &mut Text)
     list_group_waits(figures, page);
 }
 
-#[tactic(auto, using(scxsim_simulation::proofs::Pieces::puts_next))]
+#[tactic(auto, using(scxsim_output::proofs::Pieces::puts_next))]
 fn list_task_waits(figures: &Figures, page: &mut Text)
     ensures { Puts page.old
         (all_below (task_waits figures.now) (length figures.now.tasks.items)) page.new }
@@ -61,7 +61,7 @@ fn list_task_waits(figures: &Figures, page: &mut Text)
     }
 }
 
-#[tactic(auto, using(scxsim_simulation::proofs::Pieces::puts_next))]
+#[tactic(auto, using(scxsim_output::proofs::Pieces::puts_next))]
 fn list_group_waits(figures: &Figures, page: &mut Text)
     ensures { Puts page.old
         (all_below (group_waits figures.now) (length figures.now.groups.items)) page.new }

@@ -1,6 +1,6 @@
 use Rattle.std.specs.Prelude.{string_bytes}
 use Rattle.scxsim_simulation.specs.MapLines.{map_lines}
-use Rattle.scxsim_simulation.proofs.Pieces.{all_put}
+use Rattle.scxsim_output.proofs.Pieces.{all_put}
 use Rattle.scxsim_simulation.proofs.final_maps.text_of.Goals as goal
 
 pub returns : goal.returns

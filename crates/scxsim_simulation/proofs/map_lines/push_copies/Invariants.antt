@@ -1,5 +1,5 @@
-use Rattle.scxsim_output.specs.Texts.{Puts}
-use Rattle.scxsim_simulation.specs.MapLines.{all_below, copy_lines}
+use Rattle.scxsim_output.specs.Texts.{Puts, all_below}
+use Rattle.scxsim_simulation.specs.MapLines.{copy_lines}
 use Rattle.scxsim_simulation.proofs.map_lines.push_copies.Given as goal
 
 abbrev pub invariant-loop-cpu : goal.invariant-loop-cpu

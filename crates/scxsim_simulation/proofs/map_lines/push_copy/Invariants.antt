@@ -1,6 +1,6 @@
 use Rattle.scx_maps.specs.Laws.{value_at}
-use Rattle.scxsim_output.specs.Texts.{Puts}
-use Rattle.scxsim_simulation.specs.MapLines.{all_below, copy_line, if_there, unless_zero}
+use Rattle.scxsim_output.specs.Texts.{Puts, all_below}
+use Rattle.scxsim_simulation.specs.MapLines.{copy_line, if_there, unless_zero}
 use Rattle.scxsim_simulation.proofs.map_lines.push_copy.Given as goal
 
 abbrev pub invariant-loop-key : goal.invariant-loop-key

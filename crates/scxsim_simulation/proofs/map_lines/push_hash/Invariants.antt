@@ -1,7 +1,7 @@
 use Rattle.std.proofs.Common.{get_or, None}
 use Rattle.scx_isa_semantics.specs.Elements.{directory}
-use Rattle.scxsim_output.specs.Texts.{Puts}
-use Rattle.scxsim_simulation.specs.MapLines.{all_below, held_in, held_line}
+use Rattle.scxsim_output.specs.Texts.{Puts, all_below}
+use Rattle.scxsim_simulation.specs.MapLines.{held_in, held_line}
 use Rattle.scxsim_simulation.proofs.map_lines.push_hash.Given as goal
 
 abbrev pub invariant-loop-slot : goal.invariant-loop-slot

@@ -1,5 +1,5 @@
-use Rattle.scxsim_output.specs.Texts.{Puts}
-use Rattle.scxsim_simulation.specs.MapLines.{all_below, kind_lines}
+use Rattle.scxsim_output.specs.Texts.{Puts, all_below}
+use Rattle.scxsim_simulation.specs.MapLines.{kind_lines}
 use Rattle.scxsim_simulation.proofs.map_lines.push_maps.Given as goal
 
 abbrev pub invariant-loop-map : goal.invariant-loop-map

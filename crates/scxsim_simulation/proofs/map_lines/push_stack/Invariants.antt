@@ -1,7 +1,7 @@
 use Rattle.std.proofs.Common.{◌+◌, ◌-◌, [], get_or, length}
 use Rattle.scx_maps.specs.Laws.{listed}
-use Rattle.scxsim_output.specs.Texts.{Puts}
-use Rattle.scxsim_simulation.specs.MapLines.{all_below, pop_line}
+use Rattle.scxsim_output.specs.Texts.{Puts, all_below}
+use Rattle.scxsim_simulation.specs.MapLines.{pop_line}
 use Rattle.scxsim_simulation.proofs.map_lines.push_stack.Given as goal
 
 abbrev pub invariant-loop-place : goal.invariant-loop-place

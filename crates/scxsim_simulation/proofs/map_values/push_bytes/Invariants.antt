@@ -1,6 +1,6 @@
 use Rattle.std.proofs.Common.{get_or}
-use Rattle.scxsim_output.specs.Texts.{Puts}
-use Rattle.scxsim_simulation.specs.MapLines.{all_below, byte_text}
+use Rattle.scxsim_output.specs.Texts.{Puts, all_below}
+use Rattle.scxsim_simulation.specs.MapLines.{byte_text}
 use Rattle.scxsim_simulation.proofs.map_values.push_bytes.Given as goal
 
 abbrev pub invariant-loop-place : goal.invariant-loop-place

@@ -1,6 +1,6 @@
 use Rattle.std.proofs.Common.{get_or, decimal}
 use Rattle.scxsim_output.specs.Texts.{Puts}
-use Rattle.scxsim_simulation.specs.MapLines.{all_below}
+use Rattle.scxsim_output.specs.Texts.{all_below}
 use Rattle.scxsim_statistics.specs.Cells.{right}
 use Rattle.scxsim_statistics.proofs.numbers.write_numbers.Given as goal
 

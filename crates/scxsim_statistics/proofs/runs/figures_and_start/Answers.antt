@@ -1,6 +1,6 @@
 use Rattle.std.proofs.Common.{refl, subst, sym}
 use Rattle.scx_sched.specs.Sim.{SimState}
-use Rattle.scxsim_simulation.specs.Scenarios.{IsScenarioRun}
+use Rattle.scxsim_runs.specs.Scenarios.{IsScenarioRun}
 use Rattle.scxsim_statistics.proofs.Reading.{of_texts, name_is}
 use Rattle.scxsim_statistics.proofs.runs.figures_and_start.Goals as goal
 

@@ -1,5 +1,5 @@
 use Rattle.std.specs.Io.KnownBytes.{Appends}
-use Rattle.scxsim_simulation.specs.Replays.{IsReplayCause}
+use Rattle.scxsim_runs.specs.Replays.{IsReplayCause}
 use Rattle.scxsim_statistics.specs.Figures.{AreOfEvents}
 use Rattle.scxsim_tables.specs.Values.{values}
 use Rattle.scxsim_tables.proofs.Rows.{with_figures, no_memory_is_cause}

@@ -1,6 +1,6 @@
 use Rattle.std.specs.Prelude.{string_bytes}
 use Rattle.scxsim_tables.specs.Tables.{table_rows}
-use Rattle.scxsim_simulation.proofs.Pieces.{all_put}
+use Rattle.scxsim_output.proofs.Pieces.{all_put}
 use Rattle.scxsim_tables.proofs.telling.table_rows.Goals as goal
 
 pub returns : goal.returns

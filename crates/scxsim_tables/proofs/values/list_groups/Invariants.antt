@@ -1,5 +1,5 @@
 use Rattle.scxsim_output.specs.Texts.{Puts}
-use Rattle.scxsim_simulation.specs.MapLines.{all_below}
+use Rattle.scxsim_output.specs.Texts.{all_below}
 use Rattle.scxsim_tables.specs.Values.{group_values}
 use Rattle.scxsim_tables.proofs.values.list_groups.Given as goal
 
