@@ -1,5 +1,6 @@
-//! Tests of the machine that no file of cases can show: calls and events that are refused, and milliseconds that pass at
-//! once. The program steps a machine as any caller of the libraries may (`stepping`).
+//! Tests of the machine and of commands that no file of cases can show: calls and events that are refused, milliseconds
+//! that pass at once, outputs that fail at each of their writes, files that end at each of their bytes, and progress of
+//! a run. The program steps a machine as any caller of the libraries may (`stepping`).
 #![tactic(auto)]
 
 #[cfg(test)]

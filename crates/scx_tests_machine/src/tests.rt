@@ -1,3 +1,9 @@
+mod beginnings;
+mod memory;
+mod progress;
 mod refusals;
+mod runs;
 mod steps;
+mod texts;
 mod turns;
+mod writers;

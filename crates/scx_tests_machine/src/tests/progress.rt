@@ -6,7 +6,7 @@ use super::texts::TWO_TASKS;
 use crate::same::expect_same;
 use scxsim_output::Counted;
 use scxsim_remarks::{Estimate, Progress};
-use scxsim_simulation::Listener;
+use scxsim_runs::Listener;
 use std::alloc::Global;
 use std::cell::{Cell, RefCell};
 use std::fmt::{Display, Write};

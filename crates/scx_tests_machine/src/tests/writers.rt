@@ -4,7 +4,8 @@ use super::memory::{Limits, Memory};
 use super::texts::{SHORT_SLICES, TWO_TASKS};
 use scxsim_commands::Fault;
 use scxsim_output::Counted;
-use scxsim_simulation::{Nobody, report, simulate};
+use scxsim_runs::Nobody;
+use scxsim_simulation::{report, simulate};
 use std::alloc::Global;
 use std::process::Abort;
 

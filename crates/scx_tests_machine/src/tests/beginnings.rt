@@ -3,7 +3,8 @@
 use super::memory::Memory;
 use scxsim_commands::{Fault, finish, text};
 use scxsim_output::{Counted, Out};
-use scxsim_simulation::{Nobody, simulate};
+use scxsim_runs::Nobody;
+use scxsim_simulation::simulate;
 use std::alloc::Global;
 use std::process::Abort;
 

@@ -3,7 +3,8 @@
 use super::texts::SHORT_SLICES;
 use scxsim_commands::Fault;
 use scxsim_output::Out;
-use scxsim_simulation::{Listener, report, simulate};
+use scxsim_runs::Listener;
+use scxsim_simulation::{report, simulate};
 use std::alloc::Global;
 
 /// A command that runs a workload.

@@ -1,6 +1,0 @@
-mod beginnings;
-mod memory;
-mod progress;
-mod runs;
-mod texts;
-mod writers;
