@@ -99,6 +99,7 @@ module _ {F T U E : Type 0} (g : Shared F (Callback × (T × Unit {0})) (Result 
           subst (λ z. Made g f (get_or callbacks k e) (at p (get_or callbacks k e)) z) (sym (ap (λ (q : PerCallback (Option U)). at q (get_or callbacks k e)) put ∙ others made i k d e y lt also other))
           (before k e (omega (arith, less, other)) also)
 
+  -- the values of later callbacks are there still once one was taken
   pub there_still : (i : ℕ) (d : Callback) (rest after : PerCallback (Option T)) → i < length callbacks → after ≡ with_at rest (get_or callbacks i d) None → AreThere i rest → AreThere (i + 1) after
   there_still i d rest after lt taken before k e more also =
       ap (λ (q : PerCallback (Option T)). at q (get_or callbacks k e)) taken ∙ others rest i k d e None lt also (λ is. absurd (omega (arith, more, is)))
