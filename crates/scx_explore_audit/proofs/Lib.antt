@@ -6,3 +6,4 @@ mod Passing
 mod Settled
 mod Matched
 mod Wholly
+mod Computed

@@ -1,3 +1,4 @@
+ghost use Rattle.scx_explore_audit.specs.Computed.{ComputedFormsAreWhole};
 ghost use Rattle.scx_explore_audit.specs.Laws.{ClosedTablesCover, ListsAreOfEvents, RefusedEventsShowNothing};
 ghost use Rattle.scx_explore_audit.specs.Rows.{UnreadPartsAreRespected};
 ghost use Rattle.scx_explore_audit.specs.Whole.{WholeFormsAreRespected};
@@ -34,4 +35,11 @@ pub fn unread_parts_are_respected()
 /// loads. The function does nothing: its contract is the law.
 pub fn whole_forms_are_respected()
     ensures { WholeFormsAreRespected }
+{}
+
+/// The form that a search computes for milliseconds keeps what programs can tell by their calls. It keeps all that they can
+/// read if slices end exactly, and no program asks for what it leaves out of the records of tasks, or tells a slice where it
+/// leaves slices out. The function does nothing: its contract is the law.
+pub fn computed_forms_are_whole()
+    ensures { ComputedFormsAreWhole }
 {}

@@ -21,7 +21,7 @@ mod walking;
 
 pub use audit::none_in_lists;
 pub use laws::{
-    closed_tables_cover, lists_are_of_events, refused_events_show_nothing,
-    unread_parts_are_respected, whole_forms_are_respected,
+    closed_tables_cover, computed_forms_are_whole, lists_are_of_events,
+    refused_events_show_nothing, unread_parts_are_respected, whole_forms_are_respected,
 };
 pub use table::{Moves, Table};

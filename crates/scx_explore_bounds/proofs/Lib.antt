@@ -1,3 +1,5 @@
 mod Slots
+pub mod Told
 mod Tables
 mod EachProgram
+mod Done

@@ -1,3 +1,4 @@
 pub mod Uses
 pub mod Events
 pub mod Forms
+pub mod Told

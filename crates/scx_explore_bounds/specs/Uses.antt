@@ -5,7 +5,6 @@
 -- load from a task that such a helper answers counts as any load.
 use Rattle.std.specs.Prelude.{◌≡◌, ℕ, zero, suc, ◌==◌, Bool, true, false, ◌&&◌, ◌||◌, length, Option, Some, None}
 use Rattle.scx_isa_semantics.specs.declared.callbacks.Callback.{Callback}
-use Rattle.scx_isa_semantics.specs.declared.callbacks.Callback.TheVariants as callback
 use Rattle.scx_isa_semantics.specs.declared.host_tables.Field.{Field}
 use Rattle.scx_isa_semantics.specs.declared.host_tables.Field.TheVariants as field
 use Rattle.scx_isa_semantics.specs.declared.host_tables.Helper.{Helper}
@@ -27,6 +26,7 @@ use Rattle.scx_verify_explain.specs.Listings.{IsListing, known_at}
 use Rattle.scx_vm.specs.declared.context.Context.{Context}
 use Rattle.scx_isa_semantics.specs.declared.registers.Register.{Register}
 use Rattle.scx_isa_semantics.specs.Registers.{number}
+use Rattle.scx_explore_states.specs.Asking.{is_early}
 use Rattle.scx_explore_bounds.specs.declared.uses.Use.{Use}
 use Rattle.scx_explore_bounds.specs.declared.uses.Use.TheVariants as such
 use Rattle.scx_explore_bounds.specs.declared.uses.Uses.{Uses}
@@ -96,14 +96,6 @@ has l u = any_below (length l.code.items) (λ s. is_use u (at l.code.items s) (k
 -- one of two, or both
 abbrev pub either : Bool → Bool → Bool
 either a b = a || b
-
--- there is a load where a task may not have been inserted since it slept: in each callback but
--- running, stopping and tick, which are given a task that runs
-abbrev pub is_early : Callback → Bool → Bool
-is_early callback.Running b = false
-is_early callback.Stopping b = false
-is_early callback.Tick b = false
-is_early c b = b
 
 -- there is a load of a weight that is the task's own, as Linux rules tell it; plain rules tell that
 -- of a task by its groups, which is the same for all tasks of a group

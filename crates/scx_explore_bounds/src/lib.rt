@@ -8,6 +8,7 @@
 mod bounds;
 mod changes;
 mod forms;
+mod laws;
 mod memory;
 mod steps;
 mod ticks;
@@ -17,6 +18,7 @@ mod uses;
 pub use bounds::{Bounds, Mode};
 pub use changes::{Changes, MOST_CHANGES};
 pub use forms::form_of;
+pub use laws::{listings_tell_runs, uses_tell_runs};
 pub use memory::{Choice, Memory};
 pub use steps::{count_of, event_at, is_behind_ticks, most_events, places};
 pub use ticks::Ticks;

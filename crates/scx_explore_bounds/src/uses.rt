@@ -1,6 +1,7 @@
 ghost use Rattle.std.specs.Prelude.{◌≡◌, option_copied, IfOk};
 ghost use Rattle.scx_explore_bounds.specs.Forms.{tells_idle_slices};
-ghost use Rattle.scx_explore_bounds.specs.Uses.{Does, either, gives_none, has, is_call, is_early, is_field, is_helper, is_insert, is_load, is_of_task, is_own, is_task, is_use, may_be_0, with_listing};
+ghost use Rattle.scx_explore_states.specs.Asking.{is_early};
+ghost use Rattle.scx_explore_bounds.specs.Uses.{Does, either, gives_none, has, is_call, is_field, is_helper, is_insert, is_load, is_of_task, is_own, is_task, is_use, may_be_0, with_listing};
 
 use scx_abs::{AbsState, Kind};
 use scx_isa::{Callback, Field, Helper, Insn, Program, Register, Rules};

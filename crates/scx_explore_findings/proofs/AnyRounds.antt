@@ -1,25 +1,22 @@
 -- Each event leads from two states that are the same but for what is left out to two such states, and its rounds do, whoever
 -- sleeps or is held.
-use Rattle.std.proofs.Common.{◌≡◌, ℕ, zero, suc, ◌&&◌, not, Bool, true, false, if◌then◌else◌, cond, List, [], ◌∷◌, length, map, Option, Some, None, refl, sym, ap, ◌∙◌, subst, inl, inr}
+use Rattle.std.proofs.Common.{◌≡◌, ℕ, zero, suc, ◌&&◌, not, Bool, true, false, List, [], ◌∷◌, map, Option, Some, None, refl, sym, ap, ◌∙◌, subst, inl, inr}
 use Rattle.scx_dsq.specs.Queues.{entry_of}
-use Rattle.scx_weights.specs.Refusals.{max_weight, is_outside}
 use Rattle.scx_sched_tasks.specs.declared.task.Task.{Task}
-use Rattle.scx_sched_world.specs.World.{WorldState, is_runnable, this_if, or_this}
-use Rattle.scx_sched_world.specs.Pending.{is_pending, pending_below}
+use Rattle.scx_sched_world.specs.World.{WorldState}
 use Rattle.scx_sched_machine.specs.declared.events.Event.{Event}
-use Rattle.scx_sched_machine.specs.declared.events.Event.TheVariants.{Wake, Sleep, Tick, Clock, SetWeight, SetTaskWeight}
-use Rattle.scx_sched_machine.specs.declared.events.Refused.TheVariants.{AlreadyRunnable, NotRunnable, UnknownTask, BadWeight}
 use Rattle.scx_sched_policy.specs.Policy.{PolicyState}
 use Rattle.scx_sched_machine.specs.Steps.{State, CallMade, Stepped, with_world, is_by_linux, stays, one_after_other}
-use Rattle.scx_sched_machine.specs.Events.{refusal, own_step, event_step}
+use Rattle.scx_sched_machine.specs.Events.{own_step, event_step}
 use Rattle.scx_sched_machine.specs.Rounds.{most_rounds, next_to_look, round, round_then, rounds, with_rounds}
 use Rattle.scx_explore_findings.specs.Hidden.{all_hidden, with_tasks}
 use Rattle.scx_explore_findings.specs.HiddenStates.{late_in}
 use Rattle.scx_explore_findings.specs.IdleSlices.{is_put_nowhere, is_idle, is_idle_of}
 use Rattle.scx_explore_findings.proofs.IdleRecords.{bits, of_same}
 use Rattle.scx_explore_findings.proofs.Omitting.{Omitted, omit, omit_state, omit_call, omit_step, twice, IfAny}
-use Rattle.scx_explore_findings.proofs.Worlds.{known}
-use Rattle.scx_explore_findings.proofs.Steps.{TellNothing, Passes, from, joins, choose, rests}
+use Rattle.scx_explore_findings.proofs.Helpers.{IsTold}
+use Rattle.scx_explore_findings.proofs.Runs.{calls_more}
+use Rattle.scx_explore_findings.proofs.Steps.{AskNone, Tells, tells_first_if, Passes, from, joins, choose, rests}
 use Rattle.scx_explore_findings.proofs.Cycles.{next_same}
 use Rattle.scx_explore_findings.proofs.Events.{IsApart, passes_any_round, passes_own}
 
@@ -60,19 +57,24 @@ module _ (h : Omitted) (w : WorldState) where
       ap (λ (xs : List Task). with_world s (with_tasks s.world (all_hidden h.parts xs)))
       (of_same (is_idle_of here.idle s.world) (is_idle_of h.idle s.world) s.world.tasks (λ u. itself (h.idle u) (is_idle w u) (is_idle s.world u) (e u)))
 
-module _ (h : Omitted) (p : PolicyState) (tells : TellNothing h p) where
+module _ (h : Omitted) (p : PolicyState) where
   module _ (s t : State) (same : omit_state h s ≡ omit_state h t) (is : s.policy ≡ p) where
-    told_here : TellNothing (here h s.world) p
-    told_here = record { unread = tells.unread; told = go tells.told }
-      where
-        go : {X : Type 0} → IfAny h.idle X → IfAny (here h s.world).idle X
-        go (inl none) = inl (λ u. ap (λ (b : Bool). b && is_idle s.world u) (none u))
-        go (inr x) = inr x
+    any_here : {X : Type 0} → IfAny h.idle X → IfAny (here h s.world).idle X
+    any_here (inl none) = inl (λ u. ap (λ (b : Bool). b && is_idle s.world u) (none u))
+    any_here (inr x) = inr x
+
+    calls_here : (cs : List CallMade) → AskNone h p cs → AskNone (here h s.world) p cs
+    calls_here cs asks = calls_more (IsTold h) (IsTold (here h s.world)) (λ w q k. (k.0, any_here k.1)) cs asks
+
+    tells_here : (r q : Stepped) → Tells h p r q → Tells (here h s.world) p r q
+    tells_here r q (inl tells) = inl (record { unread = tells.unread; told = any_here tells.told })
+    tells_here r q (inr (inl a)) = inr (inl (calls_here r.calls a))
+    tells_here r q (inr (inr a)) = inr (inr (calls_here q.calls a))
 
     same_here : omit_state (here h s.world) s ≡ omit_state (here h s.world) t
     same_here = as_idle h s.world s (λ u. refl) ∙ same ∙ sym (as_idle h s.world t (λ u. sym (ap (λ (x : State). is_idle x.world u) same)))
 
-    apart_here : IsApart (here h s.world) p told_here s.world
+    apart_here : IsApart (here h s.world) p s.world
     apart_here u e = none (h.idle u) (is_idle s.world u) (ap (λ (b : Bool). not b && is_put_nowhere (entry_of s.world.queues u)) e)
       where
         none : (a b : Bool) → b ≡ false → (a && b) ≡ false
@@ -80,25 +82,27 @@ module _ (h : Omitted) (p : PolicyState) (tells : TellNothing h p) where
         none false b e = refl
 
     follows : (r q : Stepped) → Passes (here h s.world) p r q → Passes h p r q
-    follows r q x = (sym (more_step h s.world r) ∙ ap (omit_step h) x.0 ∙ more_step h s.world q, x.1)
+    follows r q x tells =
+        let y = x (tells_here r q tells) in
+        (sym (more_step h s.world r) ∙ ap (omit_step h) y.0 ∙ more_step h s.world q, y.1)
 
     own_alike : (e : Event) → late_in s e ≡ late_in t e → Passes h p (own_step s e) (own_step t e)
-    own_alike e late = follows (own_step s e) (own_step t e) (passes_own (here h s.world) p told_here e s t same_here is apart_here late)
+    own_alike e late = follows (own_step s e) (own_step t e) (passes_own (here h s.world) p e s t same_here is apart_here late)
 
     round_alike : (c : ℕ) → Passes h p (round s c) (round t c)
-    round_alike c = follows (round s c) (round t c) (passes_any_round (here h s.world) p told_here c s t same_here is apart_here)
+    round_alike c = follows (round s c) (round t c) (passes_any_round (here h s.world) p c s t same_here is apart_here)
 
   -- ---- rounds
 
   next_alike : (s t : State) → omit_state h s ≡ omit_state h t → next_to_look s ≡ next_to_look t
-  next_alike s t same = next_same h p tells s ∙ ap next_to_look same ∙ sym (next_same h p tells t)
+  next_alike s t same = next_same h p s ∙ ap next_to_look same ∙ sym (next_same h p t)
 
   then_alike : (next : State → Stepped) → ((s t : State) → omit_state h s ≡ omit_state h t → s.policy ≡ p → Passes h p (next s) (next t)) → (o : Option ℕ) (s t : State) → omit_state h s ≡ omit_state h t → s.policy ≡ p
       → Passes h p (round_then next s o) (round_then next t o)
   then_alike next on None s t same is = from h p stays (rests h p) s t same is
   then_alike next on (Some c) s t same is =
-      let x = round_alike s t same is c in
-      joins h p (round s c) (round t c) (next (round s c).state) (next (round t c).state) x (on (round s c).state (round t c).state (ap (λ (y : Stepped). y.state) x.0) x.1)
+      joins h p (round s c) (round t c) (next (round s c).state) (next (round t c).state) (round_alike s t same is c)
+      (λ e stays_so. on (round s c).state (round t c).state (ap (λ (y : Stepped). y.state) e) stays_so)
 
   rounds_alike : (n : ℕ) (s t : State) → omit_state h s ≡ omit_state h t → s.policy ≡ p → Passes h p (rounds n s) (rounds n t)
   unfolding rounds
@@ -109,10 +113,12 @@ module _ (h : Omitted) (p : PolicyState) (tells : TellNothing h p) where
 
   with_rounds_alike : (r q : Stepped) → Passes h p r q → Passes h p (with_rounds r) (with_rounds q)
   unfolding with_rounds
-  with_rounds_alike r q x =
-      choose h p (is_by_linux r.state) (is_by_linux q.state) (one_after_other r (rounds most_rounds r.state)) (one_after_other q (rounds most_rounds q.state)) r q (ap (λ (y : Stepped). is_by_linux y.state) x.0)
-      (joins h p r q (rounds most_rounds r.state) (rounds most_rounds q.state) x (rounds_alike most_rounds r.state q.state (ap (λ (y : Stepped). y.state) x.0) x.1)) x
+  with_rounds_alike r q x tells =
+      choose h p (is_by_linux r.state) (is_by_linux q.state) (one_after_other r (rounds most_rounds r.state)) (one_after_other q (rounds most_rounds q.state)) r q
+      (ap (λ (y : Stepped). is_by_linux y.state) (x (tells_first_if h p (is_by_linux r.state) (is_by_linux q.state) r (rounds most_rounds r.state) q (rounds most_rounds q.state) tells)).0)
+      (joins h p r q (rounds most_rounds r.state) (rounds most_rounds q.state) x (λ e is. rounds_alike most_rounds r.state q.state (ap (λ (y : Stepped). y.state) e) is)) x tells
 
   -- in two states that are the same an event comes to the same, where the same task or none waits too long in both
-  pub passes_event : (e : Event) (s t : State) → omit_state h s ≡ omit_state h t → s.policy ≡ p → late_in s e ≡ late_in t e → Passes h p (event_step s e) (event_step t e)
-  passes_event e s t same is late = with_rounds_alike (own_step s e) (own_step t e) (own_alike s t same is e late)
+  pub passes_event : (e : Event) (s t : State) → omit_state h s ≡ omit_state h t → s.policy ≡ p → (Tells h p (own_step s e) (own_step t e) → late_in s e ≡ late_in t e) → Passes h p (event_step s e) (event_step t e)
+  passes_event e s t same is late tells =
+      with_rounds_alike (own_step s e) (own_step t e) (λ own. own_alike s t same is e (late own) own) tells

@@ -29,17 +29,17 @@ use Rattle.scx_explore_findings.proofs.Records.{alike_if}
 use Rattle.scx_explore_findings.proofs.Omitting.{Omitted, omit, omit_state, omit_step}
 use Rattle.scx_explore_findings.proofs.IdleTasks.{queued_busy, out_busy, Out}
 use Rattle.scx_explore_findings.proofs.Worlds.{plain, read_busy, hides_stop, hides_started, hides_run, hides_switch, hides_cycling, hides_cut_off, hides_keep, hides_charge, hides_catch_up}
-use Rattle.scx_explore_findings.proofs.Steps.{TellNothing, local_other, Passes, On, in_world, Turns, after_turn, turns_world, turned, turns_if, chain, noted, choose, single, rests, noted_same, passes_call_back, passes_call_by_linux, passes_enters, passes_put, passes_fill, passes_park_next, passes_supply}
+use Rattle.scx_explore_findings.proofs.Steps.{local_other, tells_first, tells_first_if, Passes, On, in_world, Turns, after_turn, turns_world, turned, turns_if, chain, noted, choose, single, rests, noted_same, passes_call_back, passes_call_by_linux, passes_enters, passes_put, passes_fill, passes_park_next, passes_supply}
 
-module _ (h : Omitted) (p : PolicyState) (tells : TellNothing h p) where
+module _ (h : Omitted) (p : PolicyState) where
   -- the task, if there is one, isn't one of those
   abbrev pub IsOut : Option ℕ → Type 0
   IsOut None = Unit {0}
   IsOut (Some t) = h.idle t ≡ false
 
   -- a part of a step that is the same as another is read alike
-  pub read_step : {A : Type 0} (f : Stepped → A) → ((r : Stepped) → f (omit_step h r) ≡ f r) → (r q : Stepped) → Passes h p r q → f r ≡ f q
-  read_step f k r q e = sym (k r) ∙ ap f e.0 ∙ k q
+  pub read_step : {A : Type 0} (f : Stepped → A) → ((r : Stepped) → f (omit_step h r) ≡ f r) → (r q : Stepped) → omit_step h r ≡ omit_step h q → f r ≡ f q
+  read_step f k r q e = sym (k r) ∙ ap f e ∙ k q
 
   -- ---- dispatch
 
@@ -60,7 +60,7 @@ module _ (h : Omitted) (p : PolicyState) (tells : TellNothing h p) where
   -- the policy hears that a task left its custody
   pub passes_dequeued : (t c flags : ℕ) → On h p (λ s. tells_dequeued s t c flags)
   unfolding tells_dequeued
-  passes_dequeued t c flags s is = passes_call_by_linux h p tells callback.Dequeue (task_and_number t flags) t c s is
+  passes_dequeued t c flags s is = passes_call_by_linux h p callback.Dequeue (task_and_number t flags) t c s is
 
   passes_tells_of : (o : Option ℕ) (c : ℕ) → On h p (λ s. tells_of o s c)
   passes_tells_of None c s is = rests h p s is
@@ -95,8 +95,10 @@ module _ (h : Omitted) (p : PolicyState) (tells : TellNothing h p) where
       let r = call_back s callback.Dispatch a 0 c in
       let q = call_back (omit_state h s) callback.Dispatch a 0 c in
       let ns = noted_by s callback.Dispatch a 0 c in
-      subst (λ (ms : List Note). Passes h p (one_after_other r (tells_left r.state c ns)) (one_after_other q (tells_left q.state c ms))) (noted_same h p tells s callback.Dispatch a 0 c is)
-      (chain h p r q (λ x. tells_left x c ns) (passes_call_back h p tells callback.Dispatch a 0 c s is) (passes_tells_left ns c))
+      λ tells.
+      subst (λ (ms : List Note). Passes h p (one_after_other r (tells_left r.state c ns)) (one_after_other q (tells_left q.state c ms)))
+      (noted_same h p callback.Dispatch a 0 c s is (tells_first h p r (tells_left r.state c ns) q (tells_left q.state c (noted_by (omit_state h s) callback.Dispatch a 0 c)) tells))
+      (chain h p r q (λ x. tells_left x c ns) (passes_call_back h p callback.Dispatch a 0 c s is) (passes_tells_left ns c)) tells
 
   passes_dispatch : (c : ℕ) (o : Option ℕ) → IsOut o → On h p (λ s. after_dispatch s c o)
   unfolding after_dispatch
@@ -110,8 +112,10 @@ module _ (h : Omitted) (p : PolicyState) (tells : TellNothing h p) where
       let x = after_dispatch s c o in
       let y = after_dispatch (omit_state h s) c o in
       let k = passes_dispatch c o out s is in
+      λ tells.
       choose h p (asks_again x.state c o) (asks_again y.state c o) (one_after_other x (tries n x.state c o)) (one_after_other y (tries n y.state c o)) x y
-      (read_step (λ r. asks_again r.state c o) (λ r. sym (asks_same r.state c o out)) x y k) (chain h p x y (λ r. tries n r c o) k (passes_tries n c o out)) k
+      (read_step (λ r. asks_again r.state c o) (λ r. sym (asks_same r.state c o out)) x y (k (tells_first_if h p (asks_again x.state c o) (asks_again y.state c o) x (tries n x.state c o) y (tries n y.state c o) tells)).0)
+      (chain h p x y (λ r. tries n r c o) k (passes_tries n c o out)) k tells
 
   -- ---- on and off a processor
 
@@ -120,13 +124,13 @@ module _ (h : Omitted) (p : PolicyState) (tells : TellNothing h p) where
   unfolding after_stopping
   passes_stopping c t n out s is =
       choose h p (is_ejected s) (is_ejected s) (stays (with_world s (after_charge s.world t))) (stays (with_world (omit_state h s) (after_charge (omit h s.world) t))) (stopping_called s c t n) (stopping_called (omit_state h s) c t n) refl
-      (single h p s (after_charge s.world t) (after_charge (omit h s.world) t) [] [] (hides_charge h t out s.world) refl is) (passes_call_back h p tells callback.Stopping (task_and_number t n) t c s is)
+      (single h p s (after_charge s.world t) (after_charge (omit h s.world) t) [] [] (hides_charge h t out s.world) refl is) (passes_call_back h p callback.Stopping (task_and_number t n) t c s is)
 
   passes_running : (c t : ℕ) → On h p (λ s. after_running s c t)
   unfolding after_running
   passes_running c t s is =
       choose h p (is_ejected s) (is_ejected s) (stays (with_world s (after_catch_up s.world t))) (stays (with_world (omit_state h s) (after_catch_up (omit h s.world) t))) (call_back s callback.Running (one_task t) t c) (call_back (omit_state h s) callback.Running (one_task t) t c) refl
-      (single h p s (after_catch_up s.world t) (after_catch_up (omit h s.world) t) [] [] (hides_catch_up h t s.world) refl is) (passes_call_back h p tells callback.Running (one_task t) t c s is)
+      (single h p s (after_catch_up s.world t) (after_catch_up (omit h s.world) t) [] [] (hides_catch_up h t s.world) refl is) (passes_call_back h p callback.Running (one_task t) t c s is)
 
   -- a task leaves its processor, and the policy hears of it
   passes_off : (c t n : ℕ) → h.idle t ≡ false → On h p (λ s. after_stopping (with_world s (after_stop s.world c t)) c t n)
@@ -137,7 +141,7 @@ module _ (h : Omitted) (p : PolicyState) (tells : TellNothing h p) where
   unfolding put_back
   passes_put_back c t out s is =
       choose h p (keeps_slice s (Some t)) (keeps_slice (omit_state h s) (Some t)) (enters s t (to_front c)) (enters (omit_state h s) t (to_front c)) (put s t c 0) (put (omit_state h s) t c 0) (keeps_same s (Some t) out)
-      (passes_enters h p tells t (to_front c) (Out out) s is) (passes_put h p tells t c 0 s is)
+      (passes_enters h p t (to_front c) (Out out) s is) (passes_put h p t c 0 s is)
 
   passes_leave : (c : ℕ) (o : Option ℕ) → IsOut o → On h p (λ s. leave s c o)
   unfolding leave
@@ -187,7 +191,7 @@ module _ (h : Omitted) (p : PolicyState) (tells : TellNothing h p) where
   -- the policy hears that a processor is idle, or idle no more
   passes_tells_idle : (c n : ℕ) → On h p (λ s. tells_idle s c n)
   unfolding tells_idle
-  passes_tells_idle c n s is = passes_call_by_linux h p tells callback.UpdateIdle (two_numbers c n) 0 c s is
+  passes_tells_idle c n s is = passes_call_by_linux h p callback.UpdateIdle (two_numbers c n) 0 c s is
 
   passes_tells_busy : (c : ℕ) (o : Option ℕ) (ran : Bool) → On h p (λ s. tells_busy s c o ran)
   unfolding tells_busy

@@ -14,7 +14,7 @@ use Rattle.scx_sched_world.specs.World.{WorldState}
 use Rattle.scx_sched_world.specs.Helpers.{world_functions}
 use Rattle.scx_explore_findings.specs.Delayed.{delay, is_clock, reads_clock, IsClocklessBy}
 use Rattle.scx_explore_findings.proofs.DelayedHelpers.{IsTimeless, answer_as, delays_query}
-use Rattle.scx_explore_findings.proofs.Queries.{StepsOpen, MayAskAt, of_step}
+use Rattle.scx_explore_states.proofs.Queries.{StepsOpen, MayAskAt, of_step}
 
 -- what a program asks
 timeless_insn : (c : Callback) (o : Option Insn) → reads_clock o ≡ false → MayAskAt IsTimeless (λ t f n. tt) c o

@@ -29,7 +29,7 @@ use Rattle.scx_sched_machine.specs.Put.{enters, enqueue_choice, enters_builtin, 
 use Rattle.scx_sched_machine.specs.Events.{insert_or_put}
 use Rattle.scx_sched_machine.proofs.Choices.{keeps_if}
 use Rattle.scx_sched.specs.Sim.{SimState, after_event}
-use Rattle.scx_explore_findings.proofs.Queries.{IsAllowed, stores_allowed, asks_allowed, run_keeps}
+use Rattle.scx_explore_states.proofs.Queries.{IsAllowed, stores_allowed, asks_allowed, run_keeps}
 use Rattle.scx_explore_findings.proofs.EventWalk.{cycled_anyhow, IsKeptBySmallSteps, eject_policy, call_back_policy, put_policy, settled_policy, walk_after}
 use Rattle.scx_explore_findings.proofs.WorldSizes.{HasSize, sized_query, sized_evicted, sized_cut, sized_task, sized_homed, sized_entered, sized_put_builtin, sized_brought, sized_put_parked, sized_started, sized_run, sized_kept, sized_stopped, sized_asleep, sized_left, sized_used, sized_reweighed, sized_weighed, sized_chosen}
 

@@ -9,7 +9,7 @@ use Rattle.scx_sched_world.specs.declared.eject.Eject.TheVariants as cause
 use Rattle.scx_sched_world.specs.declared.timers.Alarm.{Alarm}
 use Rattle.scx_sched_world.specs.declared.notes.What.TheVariants as note
 use Rattle.scx_sched_world.specs.Ids.{parked_queue}
-use Rattle.scx_sched_world.specs.World.{WorldState, with_switch, with_kick, with_slept, with_waker, with_timer_at_hand, task_at, is_runnable, first_home, is_throttled, waits, running, cpu_of, is_idle, choice, after_claim, at_callback, note_now, is_this, this_if, or_this}
+use Rattle.scx_sched_world.specs.World.{WorldState, with_switch, with_kick, with_slept, with_waker, with_timer_at_hand, task_at, is_runnable, first_home, is_throttled, waits, running, cpu_of, is_idle, choice, after_claim, at_callback, note_now}
 use Rattle.scx_sched_world.specs.Tasks.{for_cpu, to_local, homed, after_wake, after_sleep, after_leave, after_stop, let_go, after_tick, used_ms, later, begun_periods, after_reweigh, after_own_weight}
 use Rattle.scx_sched_world.specs.Helpers.{with_insert, alarm_at, due_now, after_fire}
 use Rattle.scx_weights.specs.Refusals.{max_weight, is_outside}
@@ -30,11 +30,11 @@ use Rattle.scx_sched_world.specs.World as world
 use Rattle.scx_sched_machine.specs.Rounds.{round}
 use Rattle.scx_explore_findings.specs.HiddenStates.{once_let_go, once_later, late_in}
 use Rattle.scx_explore_findings.specs.IdleSlices.{runs_on}
-use Rattle.scx_explore_findings.proofs.Omitting.{Omitted, omit, omit_state, omit_step, IfAny, if_any}
+use Rattle.scx_explore_findings.proofs.Omitting.{Omitted, omit, omit_state, IfAny, if_any}
 use Rattle.scx_explore_findings.proofs.IdleTasks.{out_busy, may_enter, on_that, on_one}
 use Rattle.scx_explore_findings.proofs.Worlds.{Hides, plain, both, by_linux, read, read_busy, throttled_same, chosen_same, choice_same, hides_homed, hides_stop, hides_begin_switch, hides_waker, hides_claim, overdue_same, hides_leave, hides_wake, hides_sleep, hides_let_go, hides_tick, hides_used, hides_reweigh, hides_own_weight, known}
 use Rattle.scx_explore_findings.proofs.Helpers.{Wants, wants_homed, wants_claimed}
-use Rattle.scx_explore_findings.proofs.Steps.{TellNothing, Passes, On, from, OnGiven, from_given, in_world, Turns, after_turn, turns_world, turned, turns_if, chain, chain_given, noted, choose, single, rests, passes_eject, answered_same, passes_call_back, call_back_wants, passes_call_by_linux, passes_enters, passes_put, passes_park}
+use Rattle.scx_explore_findings.proofs.Steps.{Tells, tells_first, tells_two, Passes, On, joined_alike, from, OnGiven, from_given, in_world, Turns, after_turn, turns_world, turned, turns_if, chain, chain_given, noted, choose, single, rests, passes_eject, answered_same, passes_call_back, call_back_wants, passes_call_by_linux, passes_enters, passes_put, passes_park}
 use Rattle.scx_explore_findings.proofs.Cycles.{IsOut, passes_dequeued, passes_stopping, passes_cycle, passes_round}
 
 -- an event of one of two such states is refused for the same cause in the other one
@@ -57,7 +57,7 @@ chosen_wants None s t h =
     go None v k = k
     go (Some c) v k = refl
 
-module _ (h : Omitted) (p : PolicyState) (tells : TellNothing h p) where
+module _ (h : Omitted) (p : PolicyState) where
   -- none of those tasks runs
   abbrev pub IsApart : WorldState → Type 0
   IsApart w = (t : ℕ) → runs_on t w.cpus ≡ true → h.idle t ≡ false
@@ -65,8 +65,8 @@ module _ (h : Omitted) (p : PolicyState) (tells : TellNothing h p) where
   -- ---- a task wakes
 
   passes_settled : (o : Option Insert) (t c : ℕ) → IfAny h.idle (Wants o) → On h p (λ s. insert_or_put o s t c)
-  passes_settled None t c wants s is = passes_put h p tells t c 1 s is
-  passes_settled (Some i) t c wants s is = passes_enters h p tells t (for_cpu c i) (may_enter h.idle t (for_cpu c i) wants) s is
+  passes_settled None t c wants s is = passes_put h p t c 1 s is
+  passes_settled (Some i) t c wants s is = passes_enters h p t (for_cpu c i) (may_enter h.idle t (for_cpu c i) wants) s is
 
   -- a processor looks for work as the event ends, if it is idle
   turns_kicked : (c : ℕ) → Turns h p (λ s. kicked_if_idle s c)
@@ -85,7 +85,7 @@ module _ (h : Omitted) (p : PolicyState) (tells : TellNothing h p) where
       let one : State → Stepped = λ r. cond (is_idle r.world c) (cycle r c None false) (stays r) in
       choose h p (is_by_linux s) (is_by_linux s) (stays (kicked_if_idle (woken s) c)) (stays (kicked_if_idle (woken (omit_state h s)) c)) (one s) (one (omit_state h s)) refl
       (after_turn h p woken (λ r. stays (kicked_if_idle r c)) turns_woken (passes_kicked c) s is)
-      (choose h p (is_idle s.world c) (is_idle s.world c) (cycle s c None false) (cycle (omit_state h s) c None false) (stays s) (stays (omit_state h s)) refl (passes_cycle h p tells c None false tt s is) (rests h p s is))
+      (choose h p (is_idle s.world c) (is_idle s.world c) (cycle s c None false) (cycle (omit_state h s) c None false) (stays s) (stays (omit_state h s)) refl (passes_cycle h p c None false tt s is) (rests h p s is))
 
   -- as it was inserted, or put
   passes_comes_to : (o : Option Insert) (t c : ℕ) → IfAny h.idle (Wants o) → On h p (λ s. comes_to o s t c)
@@ -98,7 +98,7 @@ module _ (h : Omitted) (p : PolicyState) (tells : TellNothing h p) where
   passes_told_runnable o t c wants s is =
       let a = task_and_number t 1 in
       chain h p (call_by_linux s callback.Runnable a t c) (call_by_linux (omit_state h s) callback.Runnable a t c) (λ y. comes_to (while_in_force y o) y t c)
-      (passes_call_by_linux h p tells callback.Runnable a t c s is) (λ y there. passes_comes_to (while_in_force y o) t c (if_any h.idle (keeps_if Wants (is_ejected y) None o tt) wants) y there)
+      (passes_call_by_linux h p callback.Runnable a t c s is) (λ y there. passes_comes_to (while_in_force y o) t c (if_any h.idle (keeps_if Wants (is_ejected y) None o tt) wants) y there)
 
   -- once the task's processor is known
   abbrev homed_comes : ℕ → ℕ → State → Stepped
@@ -160,8 +160,10 @@ module _ (h : Omitted) (p : PolicyState) (tells : TellNothing h p) where
       let r = call_back s callback.SelectCpu (task_cpu_and_0 t c) t c in
       let q = call_back (omit_state h s) callback.SelectCpu (task_cpu_and_0 t c) t c in
       let a = answered_by s callback.SelectCpu (task_cpu_and_0 t c) t c in
-      subst (λ (b : Option ℕ). Passes h p (selected t c s) (one_after_other q (settled_by t b q.state))) (answered_same h p tells s callback.SelectCpu (task_cpu_and_0 t c) t c is)
-      (chain_given h p r q (settled_by t a) (passes_call_back h p tells callback.SelectCpu (task_cpu_and_0 t c) t c s is) (call_back_wants h p tells callback.SelectCpu (task_cpu_and_0 t c) t c s is) (passes_settled_by t a))
+      λ tells.
+      subst (λ (b : Option ℕ). Passes h p (selected t c s) (one_after_other q (settled_by t b q.state)))
+      (answered_same h p callback.SelectCpu (task_cpu_and_0 t c) t c s is (tells_first h p r (settled_by t a r.state) q (settled_by t (answered_by (omit_state h s) callback.SelectCpu (task_cpu_and_0 t c) t c) q.state) tells))
+      (chain_given h p r q (settled_by t a) (passes_call_back h p callback.SelectCpu (task_cpu_and_0 t c) t c s is) (call_back_wants h p callback.SelectCpu (task_cpu_and_0 t c) t c s is) (passes_settled_by t a)) tells
 
   passes_ask_target : (t : ℕ) → On h p (λ s. ask_target s t)
   unfolding ask_target
@@ -201,14 +203,14 @@ module _ (h : Omitted) (p : PolicyState) (tells : TellNothing h p) where
   -- the processor looks for another once the task sleeps
   passes_looks_after_sleep : (t c : ℕ) → On h p (λ s. looks_after_sleep s t c)
   unfolding looks_after_sleep
-  passes_looks_after_sleep t c = after_turn h p (λ r. told_of_sleep r t) (λ r. cycle r c None true) (turns_told t) (passes_cycle h p tells c None true tt)
+  passes_looks_after_sleep t c = after_turn h p (λ r. told_of_sleep r t) (λ r. cycle r c None true) (turns_told t) (passes_cycle h p c None true tt)
 
   -- the task sleeps, and the policy hears of it
   passes_falls_asleep : (t c : ℕ) → On h p (λ s. falls_asleep s t c)
   unfolding falls_asleep
   passes_falls_asleep t c s is =
       let a = task_and_number t 1 in
-      in_world h p (λ r. call_by_linux r callback.Quiescent a t c) (passes_call_by_linux h p tells callback.Quiescent a t c) s (after_sleep s.world t) (after_sleep (omit h s.world) t) (hides_sleep h t s.world) is
+      in_world h p (λ r. call_by_linux r callback.Quiescent a t c) (passes_call_by_linux h p callback.Quiescent a t c) s (after_sleep s.world t) (after_sleep (omit h s.world) t) (hides_sleep h t s.world) is
 
   -- the task leaves its processor, on which it was the current one
   passes_leaves_cpu : (c t n : ℕ) → h.idle t ≡ false → On h p (λ s. leaves_cpu s c t n)
@@ -216,7 +218,7 @@ module _ (h : Omitted) (p : PolicyState) (tells : TellNothing h p) where
   passes_leaves_cpu c t n out s is =
       let off : WorldState → WorldState = λ w. after_stop (with_switch w c) c t in
       noted h p (note_now s.world (note.Stop t c) ∷ []) (after_stopping (with_world s (off s.world)) c t n) (after_stopping (with_world (omit_state h s) (off (omit h s.world))) c t n)
-      (in_world h p (λ r. after_stopping r c t n) (passes_stopping h p tells c t n out) s (off s.world) (off (omit h s.world)) (both h (λ w. with_switch w c) (λ w. after_stop w c t) (hides_begin_switch h c) (hides_stop h c t) s.world) is)
+      (in_world h p (λ r. after_stopping r c t n) (passes_stopping h p c t n out) s (off s.world) (off (omit h s.world)) (both h (λ w. with_switch w c) (λ w. after_stop w c t) (hides_begin_switch h c) (hides_stop h c t) s.world) is)
 
   passes_sleep_from_cpu : (t c : ℕ) → h.idle t ≡ false → On h p (λ s. sleep_from_cpu s t c)
   unfolding sleep_from_cpu
@@ -232,7 +234,7 @@ module _ (h : Omitted) (p : PolicyState) (tells : TellNothing h p) where
       let v = after_leave s.world t in
       let w = after_leave (omit h s.world) t in
       choose h p (is_in_custody s.world t) (is_in_custody s.world t) (tells_dequeued (with_world s v) t c flags) (tells_dequeued (with_world (omit_state h s) w) t c flags) (stays (with_world s v)) (stays (with_world (omit_state h s) w)) refl
-      (in_world h p (λ r. tells_dequeued r t c flags) (passes_dequeued h p tells t c flags) s v w (hides_leave h t s.world) is) (single h p s v w [] [] (hides_leave h t s.world) refl is)
+      (in_world h p (λ r. tells_dequeued r t c flags) (passes_dequeued h p t c flags) s v w (hides_leave h t s.world) is) (single h p s v w [] [] (hides_leave h t s.world) refl is)
 
   -- from its queue
   abbrev off_queue : ℕ → State → ℕ → Stepped
@@ -262,13 +264,13 @@ module _ (h : Omitted) (p : PolicyState) (tells : TellNothing h p) where
   passes_throttle c t out s is =
       let f : State → Stepped = λ x. one_after_other (park x t) (cycle (park x t).state c None true) in
       chain h p (leaves_cpu s c t 1) (leaves_cpu (omit_state h s) c t 1) f (passes_leaves_cpu c t 1 out s is)
-      (λ x there. chain h p (park x t) (park (omit_state h x) t) (λ y. cycle y c None true) (passes_park h p t out x there) (passes_cycle h p tells c None true tt))
+      (λ x there. chain h p (park x t) (park (omit_state h x) t) (λ y. cycle y c None true) (passes_park h p t out x there) (passes_cycle h p c None true tt))
 
   passes_expire : (c t : ℕ) → h.idle t ≡ false → On h p (λ s. expire s c t)
   unfolding expire ends_slices
   passes_expire c t out s is =
       choose h p ((task_at s.world t).slice == 0 && ends_slices s) ((task_at (omit h s.world) t).slice == 0 && ends_slices s) (cycle s c (Some t) true) (cycle (omit_state h s) c (Some t) true) (stays s) (stays (omit_state h s))
-      (read_busy h (λ x. x.slice == 0 && ends_slices s) (λ x. refl) s.world t (out_busy h.idle s.world t out)) (passes_cycle h p tells c (Some t) true out s is) (rests h p s is)
+      (read_busy h (λ x. x.slice == 0 && ends_slices s) (λ x. refl) s.world t (out_busy h.idle s.world t out)) (passes_cycle h p c (Some t) true out s is) (rests h p s is)
 
   -- whether the task may run on
   abbrev counted : ℕ → ℕ → State → Stepped
@@ -288,7 +290,7 @@ module _ (h : Omitted) (p : PolicyState) (tells : TellNothing h p) where
   unfolding tick_heard hears_tick
   passes_tick_heard c t s is =
       choose h p (hears_tick s) (hears_tick s) (call_back s callback.Tick (one_task t) t c) (call_back (omit_state h s) callback.Tick (one_task t) t c) (stays s) (stays (omit_state h s)) refl
-      (passes_call_back h p tells callback.Tick (one_task t) t c s is) (rests h p s is)
+      (passes_call_back h p callback.Tick (one_task t) t c s is) (rests h p s is)
 
   -- the policy hears of the tick first
   abbrev heard : ℕ → ℕ → State → Stepped
@@ -304,7 +306,7 @@ module _ (h : Omitted) (p : PolicyState) (tells : TellNothing h p) where
   passes_tick_idle : (c : ℕ) → On h p (λ s. tick_idle s c)
   unfolding tick_idle
   passes_tick_idle c s is =
-      choose h p (is_by_linux s) (is_by_linux s) (stays s) (stays (omit_state h s)) (cycle s c None false) (cycle (omit_state h s) c None false) refl (rests h p s is) (passes_cycle h p tells c None false tt s is)
+      choose h p (is_by_linux s) (is_by_linux s) (stays s) (stays (omit_state h s)) (cycle s c None false) (cycle (omit_state h s) c None false) refl (rests h p s is) (passes_cycle h p c None false tt s is)
 
   passes_tick_of : (o : Option ℕ) (c : ℕ) (s : State) → s.policy ≡ p → ((t : ℕ) → o ≡ Some t → h.idle t ≡ false) → Passes h p (tick_of o s c) (tick_of o (omit_state h s) c)
   passes_tick_of None c s is out = passes_tick_idle c s is
@@ -322,7 +324,7 @@ module _ (h : Omitted) (p : PolicyState) (tells : TellNothing h p) where
 
   passes_put_and_kick : (t c : ℕ) → On h p (λ s. put_and_kick t s c)
   passes_put_and_kick t c s is =
-      turned h p (λ y. kicked_if_idle y c) (turns_kicked c) (put s t c 0) (put (omit_state h s) t c 0) (passes_put h p tells t c 0 s is)
+      turned h p (λ y. kicked_if_idle y c) (turns_kicked c) (put s t c 0) (put (omit_state h s) t c 0) (passes_put h p t c 0 s is)
 
   abbrev put_anew : ℕ → State → ℕ → Stepped
   put_anew t s c = put_and_kick t (with_world s (let_go s.world t)) c
@@ -363,7 +365,7 @@ module _ (h : Omitted) (p : PolicyState) (tells : TellNothing h p) where
       let v = after_fire s.world n in
       let w = after_fire (omit h s.world) n in
       turned h p fired turns_fired (call_by_linux (with_world s v) callback.Timer (one_number n) 0 a.cpu) (call_by_linux (with_world (omit_state h s) w) callback.Timer (one_number n) 0 a.cpu)
-      (in_world h p (λ r. call_by_linux r callback.Timer (one_number n) 0 a.cpu) (passes_call_by_linux h p tells callback.Timer (one_number n) 0 a.cpu) s v w (plain h v) is)
+      (in_world h p (λ r. call_by_linux r callback.Timer (one_number n) 0 a.cpu) (passes_call_by_linux h p callback.Timer (one_number n) 0 a.cpu) s v w (plain h v) is)
 
   due_now_same : (w : WorldState) (o : Option Alarm) → due_now w o ≡ due_now (omit h w) o
   due_now_same w None = refl
@@ -386,10 +388,11 @@ module _ (h : Omitted) (p : PolicyState) (tells : TellNothing h p) where
   passes_fire_all s is = passes_fire_below (length s.world.timers) s is
 
   -- and timers that are due have run
-  pub passes_once_later : On h p once_later
-  passes_once_later s is =
-      let x = passes_once_let_go s is in
-      from h p fire_all passes_fire_all (once_let_go s).state (once_let_go (omit_state h s)).state (ap (λ (y : Stepped). y.state) x.0) x.1
+  abbrev pub once_fired : State → Stepped
+  once_fired s = let r = once_let_go s in one_after_other r (fire_all r.state)
+
+  pub passes_once_fired : On h p once_fired
+  passes_once_fired s is = chain h p (once_let_go s) (once_let_go (omit_state h s)) fire_all (passes_once_let_go s is) passes_fire_all
 
   overdue_is : h.parts.waits ≡ false → (s : State) → overdue s ≡ overdue (omit_state h s)
   overdue_is e s = ap (λ (o : Option ℕ). cond (is_ejected s) None o) (overdue_same h e s.world s.policy.timeout_ms)
@@ -425,7 +428,7 @@ module _ (h : Omitted) (p : PolicyState) (tells : TellNothing h p) where
   unfolding takes_weight
   passes_takes_weight t c x s is =
       let a = task_and_number t x in
-      in_world h p (λ r. call_by_linux r callback.SetWeight a t c) (passes_call_by_linux h p tells callback.SetWeight a t c) s (after_own_weight s.world t x) (after_own_weight (omit h s.world) t x) (hides_own_weight h t x s.world) is
+      in_world h p (λ r. call_by_linux r callback.SetWeight a t c) (passes_call_by_linux h p callback.SetWeight a t c) s (after_own_weight s.world t x) (after_own_weight (omit h s.world) t x) (hides_own_weight h t x s.world) is
 
   -- the task is told of as runnable again
   abbrev weighed_again : ℕ → ℕ → ℕ → State → Stepped
@@ -437,13 +440,13 @@ module _ (h : Omitted) (p : PolicyState) (tells : TellNothing h p) where
   passes_weighed_again : (t c x : ℕ) → On h p (weighed_again t c x)
   passes_weighed_again t c x s is =
       let a = task_and_number t restore_flag in
-      chain h p (takes_weight s t c x) (takes_weight (omit_state h s) t c x) (λ y. call_by_linux y callback.Runnable a t c) (passes_takes_weight t c x s is) (passes_call_by_linux h p tells callback.Runnable a t c)
+      chain h p (takes_weight s t c x) (takes_weight (omit_state h s) t c x) (λ y. call_by_linux y callback.Runnable a t c) (passes_takes_weight t c x s is) (passes_call_by_linux h p callback.Runnable a t c)
 
   passes_changes_weight : (t c x : ℕ) → On h p (λ s. changes_weight s t c x)
   unfolding changes_weight
   passes_changes_weight t c x s is =
       let a = task_and_number t change_flags in
-      chain h p (call_by_linux s callback.Quiescent a t c) (call_by_linux (omit_state h s) callback.Quiescent a t c) (weighed_again t c x) (passes_call_by_linux h p tells callback.Quiescent a t c s is) (passes_weighed_again t c x)
+      chain h p (call_by_linux s callback.Quiescent a t c) (call_by_linux (omit_state h s) callback.Quiescent a t c) (weighed_again t c x) (passes_call_by_linux h p callback.Quiescent a t c s is) (passes_weighed_again t c x)
 
   -- a task that runs, and runs on
   abbrev goes_on : ℕ → ℕ → ℕ → State → Stepped
@@ -454,20 +457,20 @@ module _ (h : Omitted) (p : PolicyState) (tells : TellNothing h p) where
 
   passes_goes_on : (t c x : ℕ) → On h p (goes_on t c x)
   passes_goes_on t c x s is =
-      chain h p (changes_weight s t c x) (changes_weight (omit_state h s) t c x) (λ y. call_by_linux y callback.Running (one_task t) t c) (passes_changes_weight t c x s is) (passes_call_by_linux h p tells callback.Running (one_task t) t c)
+      chain h p (changes_weight s t c x) (changes_weight (omit_state h s) t c x) (λ y. call_by_linux y callback.Running (one_task t) t c) (passes_changes_weight t c x s is) (passes_call_by_linux h p callback.Running (one_task t) t c)
 
   passes_reweigh_running : (t c x : ℕ) → On h p (λ s. reweigh_running s t c x)
   unfolding reweigh_running
   passes_reweigh_running t c x s is =
       let a = task_and_number t 0 in
-      chain h p (call_by_linux s callback.Stopping a t c) (call_by_linux (omit_state h s) callback.Stopping a t c) (goes_on t c x) (passes_call_by_linux h p tells callback.Stopping a t c s is) (passes_goes_on t c x)
+      chain h p (call_by_linux s callback.Stopping a t c) (call_by_linux (omit_state h s) callback.Stopping a t c) (goes_on t c x) (passes_call_by_linux h p callback.Stopping a t c s is) (passes_goes_on t c x)
 
   -- a task that waits, and is put again
   abbrev waits_on : ℕ → ℕ → ℕ → State → Stepped
   waits_on t c x s = let b = changes_weight s t c x in one_after_other b (put b.state t c 0)
 
   passes_waits_on : (t c x : ℕ) → On h p (waits_on t c x)
-  passes_waits_on t c x s is = chain h p (changes_weight s t c x) (changes_weight (omit_state h s) t c x) (λ y. put y t c 0) (passes_changes_weight t c x s is) (passes_put h p tells t c 0)
+  passes_waits_on t c x s is = chain h p (changes_weight s t c x) (changes_weight (omit_state h s) t c x) (λ y. put y t c 0) (passes_changes_weight t c x s is) (passes_put h p t c 0)
 
   passes_reweigh_waiting : (t c x : ℕ) → On h p (λ s. reweigh_waiting s t c x)
   unfolding reweigh_waiting
@@ -509,12 +512,12 @@ module _ (h : Omitted) (p : PolicyState) (tells : TellNothing h p) where
   from_apart f on s t e is apart =
       let there : t.policy ≡ p = sym (ap (λ (x : State). x.policy) e) ∙ is in
       let far = subst (λ (cpus : List (Option ℕ)). (u : ℕ) → runs_on u cpus ≡ true → h.idle u ≡ false) (ap (λ (x : State). x.world.cpus) e) apart in
-      ((on s is apart).0 ∙ ap (λ (x : State). omit_step h (f x)) e ∙ sym (on t there far).0, (on s is apart).1)
+      joined_alike h p (f s) (f (omit_state h s)) (f t) (f (omit_state h t)) (on s is apart) (on t there far) (ap f e)
 
   passes_round_of : (c : ℕ) → OnApart (λ s. round s c)
-  passes_round_of c s is apart = passes_round h p tells c s is (out (running s.world c) refl)
+  passes_round_of c s is apart = passes_round h p c s is (out (running s.world c) refl)
     where
-      out : (o : Option ℕ) → running s.world c ≡ o → IsOut h p tells o
+      out : (o : Option ℕ) → running s.world c ≡ o → IsOut h p o
       out None e = tt
       out (Some u) e = apart u (on_that s.world.cpus c u e)
 
@@ -531,16 +534,21 @@ module _ (h : Omitted) (p : PolicyState) (tells : TellNothing h p) where
   passes_own (SetWeight g x) s t same is apart late = from h p (λ r. own_step r (SetWeight g x)) (passes_weight g x) s t same is
   passes_own (SetTaskWeight u x) s t same is apart late = from h p (λ r. own_step r (SetTaskWeight u x)) (passes_weighed u x) s t same is
 
-  late_shown : h.parts.waits ≡ false → (s t : State) → omit_state h s ≡ omit_state h t → s.policy ≡ p → late_in s Clock ≡ late_in t Clock
-  late_shown e s t same is =
-      let x = from h p once_later passes_once_later s t same is in
-      overdue_is e (once_later s).state ∙ ap (λ (r : Stepped). overdue r.state) x.0 ∙ sym (overdue_is e (once_later t).state)
+  late_shown : h.parts.waits ≡ false → (s t : State) → omit_state h s ≡ omit_state h t → s.policy ≡ p → Tells h p (clock s) (clock t) → late_in s Clock ≡ late_in t Clock
+  unfolding clock timers_and_watchdog
+  late_shown e s t same is tells =
+      let r = once_let_go s in
+      let q = once_let_go t in
+      let f = fire_all r.state in
+      let g = fire_all q.state in
+      let x = from h p once_fired passes_once_fired s t same is (tells_two h p r f (watch f.state) q g (watch g.state) tells) in
+      overdue_is e (once_later s).state ∙ ap (λ (y : Stepped). overdue y.state) x.0 ∙ sym (overdue_is e (once_later t).state)
 
   -- where waits aren't hidden it does
-  pub late_same : h.parts.waits ≡ false → (e : Event) (s t : State) → omit_state h s ≡ omit_state h t → s.policy ≡ p → late_in s e ≡ late_in t e
-  late_same shown (Wake u) s t same is = refl
-  late_same shown (Sleep u) s t same is = refl
-  late_same shown (Tick c) s t same is = refl
-  late_same shown Clock s t same is = late_shown shown s t same is
-  late_same shown (SetWeight g x) s t same is = refl
-  late_same shown (SetTaskWeight u x) s t same is = refl
+  pub late_same : h.parts.waits ≡ false → (e : Event) (s t : State) → omit_state h s ≡ omit_state h t → s.policy ≡ p → Tells h p (own_step s e) (own_step t e) → late_in s e ≡ late_in t e
+  late_same shown (Wake u) s t same is tells = refl
+  late_same shown (Sleep u) s t same is tells = refl
+  late_same shown (Tick c) s t same is tells = refl
+  late_same shown Clock s t same is tells = late_shown shown s t same is tells
+  late_same shown (SetWeight g x) s t same is tells = refl
+  late_same shown (SetTaskWeight u x) s t same is tells = refl

@@ -45,7 +45,7 @@ use Rattle.scx_load_driver.specs.Runs.{stepped_all}
 use Rattle.scx_explore_states.specs.Rows.{waiting_key}
 use Rattle.scx_explore_findings.specs.FifoOnly.{is_by_vtime, inserts_by_vtime, InsertsInOrder, InsertInOrder, IsFifo, WaitsInOrder, AreInOrder, WantsOrder, IsInOrder, NobodyWaitsByVtime}
 use Rattle.scx_explore_findings.proofs.Helpers.{by_helper}
-use Rattle.scx_explore_findings.proofs.Queries.{MayAskAt, run_keeps}
+use Rattle.scx_explore_states.proofs.Queries.{MayAskAt, run_keeps}
 use Rattle.scx_explore_findings.proofs.EventWalk.{cycled_anyhow, eject_policy, IsKeptBySmallSteps, walk_all}
 
 -- ---- queues

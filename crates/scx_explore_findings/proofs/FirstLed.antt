@@ -45,7 +45,7 @@ use Rattle.scx_explore_findings.specs.FifoOnly.{InsertInOrder}
 use Rattle.scx_explore_findings.specs.WholeForms.{AreSince, IsTidy, AreMapsOf, IsLed}
 use Rattle.scx_explore_findings.proofs.First.{first_states_are_in_order}
 use Rattle.scx_explore_findings.proofs.Helpers.{by_helper}
-use Rattle.scx_explore_findings.proofs.Queries.{IsAllowed, stores_allowed, asks_allowed, run_keeps}
+use Rattle.scx_explore_states.proofs.Queries.{IsAllowed, stores_allowed, asks_allowed, run_keeps}
 use Rattle.scx_explore_findings.proofs.MapWalk.{called_shaped}
 use Rattle.scx_explore_findings.proofs.QueueWalk.{of_inserted, of_moved, of_claimed, sound_queues}
 use Rattle.scx_explore_findings.proofs.Tidying.{tidy_task, tidy_called, for_each}

@@ -37,7 +37,8 @@ use Rattle.scx_isa_semantics.specs.Steps.{target, goes, outcome_at, outcome_of}
 use Rattle.scx_vm.specs.Arguments.{argument_of}
 use Rattle.scx_sched_world.specs.Helpers.{number_of}
 use Rattle.scx_explore_findings.specs.GivenSlices.{has_slice_after, inserts, called, Fits, FitsAt, ShowsSlices, SuchProgramsGiveSlices}
-use Rattle.scx_explore_findings.specs.IdleSlices.{GivesOne, StepGives, GivesWithin}
+use Rattle.scx_explore_states.specs.Asking.{GivesOne}
+use Rattle.scx_explore_findings.specs.Asked.{StepAnyhow, AnyhowWithin}
 use Rattle.scx_explore_findings.proofs.IdleRecords.{bits}
 
 first_of : (a b : Bool) → (a && b) ≡ true → a ≡ true
@@ -181,24 +182,24 @@ module _ (a : Bool) (m : Machine) (h : Holds a m) where
   of_instruction c insn.Exit is = of_two (a && true) (answers c) _ _ (of_end (a && true) (m.registers 0)) tt
 
 module _ (c : Callback) (code : Code) (shows : ShowsSlices code) where
-  step_gives : (P : ℕ → Machine → Type 0) → ((t : ℕ) (m : Machine) → Holds (shows.label t) m → P t m) → (s : ℕ) (i : Insn) → Fits shows.label s i → (e : Effect) → Gives (has_slice_after (shows.label s) i) e → StepGives P (outcome_at s i e)
+  step_gives : (P : ℕ → Machine → Type 0) → ((t : ℕ) (m : Machine) → Holds (shows.label t) m → P t m) → (s : ℕ) (i : Insn) → Fits shows.label s i → (e : Effect) → Gives (has_slice_after (shows.label s) i) e → StepAnyhow GivesOne P (outcome_at s i e)
   step_gives P on s i fits effect.Stuck k = tt
   step_gives P on s i fits (effect.Next m) k = on (s + size i) m (λ l. k (fits.next l))
   step_gives P on s i fits (effect.Jumped m) k = go (target s i) refl
     where
-      go : (o : Option ℕ) → target s i ≡ o → StepGives P (goes o m)
+      go : (o : Option ℕ) → target s i ≡ o → StepAnyhow GivesOne P (goes o m)
       go None is = tt
       go (Some t) is = on t m (λ l. k (fits.jump t is l))
   step_gives P on s i fits (effect.Ask q go) k = (k.0, λ v. on (s + size i) (go v) (λ l. k.1 v (fits.next l)))
   step_gives P on s i fits (effect.Ended n) k = tt
 
-  run_gives : (n s : ℕ) (m : Machine) → Holds (shows.label s) m → GivesWithin c code n s m
+  run_gives : (n s : ℕ) (m : Machine) → Holds (shows.label s) m → AnyhowWithin GivesOne c code n s m
   run_gives zero s m h = tt
   run_gives (suc n) s m h = go (at code s) (shows.fits s) (λ t k. run_gives n t k)
     where
-      go : (o : Option Insn) → FitsAt shows.label s o → ((t : ℕ) (k : Machine) → Holds (shows.label t) k → GivesWithin c code n t k) → StepGives (GivesWithin c code n) (outcome_of c s o m)
+      go : (o : Option Insn) → FitsAt shows.label s o → ((t : ℕ) (k : Machine) → Holds (shows.label t) k → AnyhowWithin GivesOne c code n t k) → StepAnyhow GivesOne (AnyhowWithin GivesOne c code n) (outcome_of c s o m)
       go None fits on = tt
-      go (Some i) fits on = step_gives (GivesWithin c code n) on s i fits (act c i m) (of_instruction (shows.label s) m h c i fits.insert)
+      go (Some i) fits on = step_gives (AnyhowWithin GivesOne c code n) on s i fits (act c i m) (of_instruction (shows.label s) m h c i fits.insert)
 
 -- no insert of a run of such a program gives a slice of 0
 pub such_programs_give_slices : SuchProgramsGiveSlices

@@ -9,6 +9,7 @@ use Rattle.scx_isa_semantics.specs.declared.host_tables.Field.{Field}
 use Rattle.scx_isa_semantics.specs.declared.host_tables.Field.TheVariants.{Pid, Weight, Slice, DsqVtime, PrevCpu, Group, RunNs, Cpus}
 use Rattle.scx_isa_semantics.specs.declared.host_tables.Helper.{Helper}
 use Rattle.scx_isa_semantics.specs.declared.host_tables.Helper.TheVariants.{CreateDsq, DsqInsert, DsqInsertVtime, DsqMoveToLocal, SelectCpuDfl, CpuIdle, TaskByPid, DsqNrQueued, KickCpu, Exit, CpuCurr, DsqPeek, TaskRunning, TaskCpu, PickIdle, ClaimIdle, TimerStart, TimerCancel, PrandomU32, MayRun}
+use Rattle.scx_isa_semantics.specs.declared.host_tables.TaskId.{TaskId}
 use Rattle.scx_isa_semantics.specs.declared.values.Value.TheVariants.{Number}
 use Rattle.scx_isa_semantics.specs.Effects.{Query, Call, Load, Store}
 use Rattle.scx_vm.specs.declared.arguments.Arg.{Arg}
@@ -30,18 +31,19 @@ use Rattle.scx_weights.specs.Hierarchy.{own_weight}
 use Rattle.scx_sched_world.specs.Tasks.{after_leave, for_cpu, next_for, with_slice, with_home, homed, homed_at, local_cpu, task_after_insert, rank_by, after_preempt_of, after_preempt_at, after_preempt, after_enter}
 use Rattle.scx_sched_world.specs.Helpers.{with_fault, invalid_if, is_there, can_create, is_dispatch, may_insert_in, may_insert, queue_fault, rank_fault, or_fault, has_preempt, has_head, arrival_rank, flags_fault, cpu_meant, may_go, placing_fault, insert_fault, is_late, after_late, with_insert, with_move, after_release, insert_or_fault, after_insert, insert_answer, insert_of, insert_of_vtime, can_move, moved_to_local, unless_fault, untracked_fault, cpu_fault, ask_fault, fault_or, choice_answer, after_choice, kick_of, kick_fault, kicked_or_fault, after_kick, after_exit, task_or_null, is_current_one, cpu_of_task, may_run_there, after_random, first_free_in, pick_fault, after_pick_by, after_pick, timer_fault, with_timer, alarm_in, given_number, given_task, helper_answer, helper_after, field_of, stored_in, world_functions}
 use Rattle.scx_sched_machine.proofs.Choices.{keeps_if}
-use Rattle.scx_explore_findings.specs.Unread.{is_hidden}
+use Rattle.scx_explore_states.specs.Asking.{IsGivenSlice, GivesOne}
+use Rattle.scx_explore_findings.specs.Unread.{is_hidden, ReadsNone}
 use Rattle.scx_explore_findings.specs.FifoOnly.{IsFifo}
 use Rattle.scx_sched.proofs.Seen.{next_seen}
 use Rattle.std.proofs.lemmas.Bool.{eqb-true, ltb-true}
 use Rattle.scx_dsq.specs.Queues.{exists}
 use Rattle.scx_sched_world.specs.CpuSets.{and_cpu}
 use Rattle.scx_sched_world.specs.Ids.{policy_end, held_queue, local_on}
-use Rattle.scx_explore_findings.specs.IdleSlices.{is_idle_of, is_slice, IsGivenSlice, GivesOne}
+use Rattle.scx_explore_findings.specs.IdleSlices.{is_idle_of, LoadsBusy, TellsNoIdleSlice}
 use Rattle.scx_explore_findings.proofs.Records.{alike_if, keeps_store}
-use Rattle.scx_explore_findings.proofs.IdleRecords.{bits, keeps_store as sliceless_store}
-use Rattle.scx_explore_findings.proofs.Omitting.{Omitted, omit, length_same, IfAny}
-use Rattle.scx_explore_findings.proofs.IdleTasks.{queued_busy, out_busy, may_enter}
+use Rattle.scx_explore_findings.proofs.IdleRecords.{keeps_store as sliceless_store}
+use Rattle.scx_explore_findings.proofs.Omitting.{Omitted, omit, length_same, IfAny, if_any}
+use Rattle.scx_explore_findings.proofs.IdleTasks.{queued_busy, out_busy, no_idler, may_enter}
 use Rattle.scx_explore_findings.proofs.Worlds.{Same, Hides, plain, both, read, read_busy, weight_same, group_same, chosen_same, choice_same, set_task, hides_leave, hides_create, hides_enter, hides_claim, moved_on}
 
 -- ---- what a call may leave
@@ -128,10 +130,9 @@ module _ (may : Helper → Type 0) (P : WorldState → Type 0) (w : WorldState) 
 
 -- ---- what is left out
 
--- a query loads nothing that is left out
-abbrev pub IsShown : Omitted → Query → Type 0
-IsShown h (Load t f) = (is_hidden h.parts f ≡ false) × IfAny h.idle (is_slice (Some f) ≡ false)
-IsShown h q = Unit {0}
+-- a query loads nothing that is left out, and gives a slice if it inserts a task, where slices are left out
+abbrev pub IsTold : Omitted → WorldState → Query → Type 0
+IsTold h w q = ReadsNone h.parts q × IfAny h.idle (TellsNoIdleSlice w q)
 
 less_than : (q n : ℕ) → q < n → (q == n) ≡ false
 less_than q n l = go (q == n) refl
@@ -328,21 +329,21 @@ module _ (h : Omitted) where
   shown : (b : Bool) (n : ℕ) → b ≡ false → n ≡ cond b 0 n
   shown b n e = ap (λ (c : Bool). cond c 0 n) (sym e)
 
-  field_same : (f : Field) (t : ℕ) (w : WorldState) → is_hidden h.parts f ≡ false → IfAny h.idle (is_slice (Some f) ≡ false) → field_of w t f ≡ field_of (omit h w) t f
+  field_same : (f : Field) (t : TaskId) (w : WorldState) → is_hidden h.parts f ≡ false → IfAny h.idle (LoadsBusy w (Load t f)) → field_of w t.0 f ≡ field_of (omit h w) t.0 f
   field_same Pid t w e any = refl
-  field_same Weight t w e any = ap (λ (n : ℕ). cond (is_by_linux w) (own_weight w.tree t) n) (weight_same h w t)
-  field_same Slice t w e (inl none) = read_busy h (λ x. x.slice) (λ x. refl) w t (out_busy h.idle w t (none t))
-  field_same Slice t w e (inr k) = absurd (bits true refl k)
-  field_same DsqVtime t w e any = read h (λ x. x.vtime) (λ x. shown h.parts.vtime x.vtime e) (λ x. refl) w t
-  field_same PrevCpu t w e any = read h (λ x. x.prev_cpu) (λ x. refl) (λ x. refl) w t
-  field_same Group t w e any = group_same h w t
+  field_same Weight t w e any = ap (λ (n : ℕ). cond (is_by_linux w) (own_weight w.tree t.0) n) (weight_same h w t.0)
+  field_same Slice t w e (inl none) = read_busy h (λ x. x.slice) (λ x. refl) w t.0 (out_busy h.idle w t.0 (none t.0))
+  field_same Slice t w e (inr k) = read_busy h (λ x. x.slice) (λ x. refl) w t.0 (no_idler h.idle w t.0 k)
+  field_same DsqVtime t w e any = read h (λ x. x.vtime) (λ x. shown h.parts.vtime x.vtime e) (λ x. refl) w t.0
+  field_same PrevCpu t w e any = read h (λ x. x.prev_cpu) (λ x. refl) (λ x. refl) w t.0
+  field_same Group t w e any = group_same h w t.0
   field_same Cpus t w e any = refl
-  field_same RunNs t w e any = read h (λ x. x.run_ns) (λ x. shown h.parts.run_ns x.run_ns e) (λ x. refl) w t
+  field_same RunNs t w e any = read h (λ x. x.run_ns) (λ x. shown h.parts.run_ns x.run_ns e) (λ x. refl) w t.0
 
   -- what a query is answered that loads nothing left out
-  pub answer_same : (q : Query) (w : WorldState) → IsShown h q → answer_to world_functions w q ≡ answer_to world_functions (omit h w) q
+  pub answer_same : (q : Query) (w : WorldState) → IsTold h w q → answer_to world_functions w q ≡ answer_to world_functions (omit h w) q
   answer_same (Call f a) w e = ap answer_value (helper_same f (map argument_of a) w)
-  answer_same (Load t f) w e = ap Number (field_same f t.0 w e.0 e.1)
+  answer_same (Load t f) w e = ap Number (field_same f t w e.0 (if_any h.idle (λ k. k.0) e.1))
   answer_same (Store t f n) w e = refl
 
   -- and what one makes of the world that gives each task a slice which it inserts

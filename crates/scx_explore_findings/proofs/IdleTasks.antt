@@ -117,6 +117,14 @@ queued_busy d w t q other is = none_of (d t) (not (runs_on t w.cpus)) (is_put_no
 pub out_busy : (d : ℕ → Bool) (w : WorldState) (t : ℕ) → d t ≡ false → is_idle_of d w t ≡ false
 out_busy d w t e = ap (λ (b : Bool). b && is_idle w t) e
 
+-- nor is it where it isn't idle at all
+pub no_idler : (d : ℕ → Bool) (w : WorldState) (t : ℕ) → is_idle w t ≡ false → is_idle_of d w t ≡ false
+no_idler d w t e = go (d t)
+  where
+    go : (b : Bool) → (b && is_idle w t) ≡ false
+    go true = e
+    go false = refl
+
 -- a busy task isn't one that is idle
 pub not_that : (d : ℕ → Bool) (w : WorldState) (t u : ℕ) → is_idle_of d w t ≡ false → is_idle_of d w u ≡ true → u ≡ t → ⊥
 not_that d w t u busy idle is = bits (is_idle_of d w t) (subst (λ (k : ℕ). is_idle_of d w k ≡ true) is idle) busy

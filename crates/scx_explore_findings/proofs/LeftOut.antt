@@ -1,24 +1,24 @@
 -- Parts of records alone, and slices of idle tasks alone, as what is left out.
-use Rattle.std.proofs.Common.{◌≡◌, ℕ, suc, Bool, false, List, [], ◌∷◌, map, Option, Some, None, refl, sym, ap, ◌∙◌}
+use Rattle.std.proofs.Common.{◌≡◌, ℕ, suc, Bool, false, List, [], ◌∷◌, map, Option, Some, None, refl, sym, ap, ◌∙◌, inl, inr}
 use Rattle.scx_isa_semantics.specs.declared.host_tables.Field.{Field}
 use Rattle.scx_isa_semantics.specs.declared.host_tables.Field.TheVariants.{DsqVtime, RunNs}
-use Rattle.scx_isa_semantics.specs.declared.instructions.Insn.{Insn}
-use Rattle.scx_isa_semantics.specs.declared.instructions.Insn.TheVariants.{Load}
-use Rattle.scx_isa_semantics.specs.Arithmetic.{at_distance}
-use Rattle.scx_isa_semantics.specs.Code.{at}
-use Rattle.scx_isa_semantics.specs.HostTables.{field_at}
-use Rattle.scx_isa_semantics.specs.Memory.{access_size, size_bytes}
+use Rattle.scx_isa_semantics.specs.Effects.{Query, Call, Load, Store}
+use Rattle.scx_isa_semantics.specs.Machine.{start}
 use Rattle.scx_vm.specs.Programs.{VerifiedProgram}
 use Rattle.scx_sched_tasks.specs.declared.task.Task.{Task}
 use Rattle.scx_sched_world.specs.World.{WorldState}
+use Rattle.scx_sched_policy.specs.Policy.{PolicyState, program_of}
 use Rattle.scx_sched_machine.specs.Steps.{CallMade, with_world}
 use Rattle.scx_sched.specs.Sim.{SimState}
 use Rattle.scx_explore_findings.specs.Hidden.{Hidden, all_hidden, hidden_in, with_tasks, hide}
 use Rattle.scx_explore_findings.specs.HiddenStates.{hide_call}
 use Rattle.scx_explore_findings.specs.HiddenMachines.{hide_machine, AreSame}
-use Rattle.scx_explore_findings.specs.IdleSlices.{is_idle_of, sliceless_if, without_slices, erase, erase_state}
-use Rattle.scx_explore_findings.specs.Unread.{is_hidden_field, may_read, IsUnread}
+use Rattle.scx_explore_findings.specs.IdleSlices.{is_idle_of, sliceless_if, without_slices, erase, erase_state, TellsNoIdleSlice}
+use Rattle.scx_explore_findings.specs.Asked.{IfAsksAnyhow, AskAnyhow, CallsAsk}
+use Rattle.scx_explore_findings.specs.Unread.{is_hidden_field, ReadsNone}
 use Rattle.scx_explore_findings.proofs.Omitting.{Omitted, omit, omit_state, omit_call}
+use Rattle.scx_explore_findings.proofs.Helpers.{IsTold}
+use Rattle.scx_explore_findings.proofs.Runs.{calls_more, asks_any}
 
 -- a machine without what is left out
 abbrev pub omit_machine : Omitted → SimState → SimState
@@ -81,12 +81,23 @@ field_shown d (Some RunNs) = refl
 field_shown d (Some DsqVtime) = refl
 field_shown d (Some f) = refl
 
-insn_shown : (d : ℕ → Bool) (o : Option Insn) → may_read (slices_alone d).parts o ≡ false
-insn_shown d None = refl
-insn_shown d (Some (Load a b r offset)) = field_shown d (field_at (size_bytes (access_size a)) (at_distance 0 offset))
-insn_shown d (Some i) = refl
+query_shown : (d : ℕ → Bool) (q : Query) → ReadsNone (slices_alone d).parts q
+query_shown d (Load t f) = field_shown d (Some f)
+query_shown d (Call f a) = tt
+query_shown d (Store t f n) = tt
 
 -- no program reads what isn't hidden
-pub slices_unread : (d : ℕ → Bool) (o : Option VerifiedProgram) → IsUnread (slices_alone d).parts o
-slices_unread d None = tt
-slices_unread d (Some q) = λ slot. insn_shown d (at q.code slot)
+pub slices_unread : (d : ℕ → Bool) (p : PolicyState) → AskAnyhow (ReadsNone (slices_alone d).parts) p
+slices_unread d p b = go (program_of p b)
+  where
+    go : (o : Option VerifiedProgram) → IfAsksAnyhow (ReadsNone (slices_alone d).parts) b o
+    go None = tt
+    go (Some q) = λ n a maps. asks_any (ReadsNone (slices_alone d).parts) (query_shown d) b q.code n 0 (start a maps)
+
+-- calls that tell no slice of an idle task ask for nothing that is left out
+pub slices_asked : (d : ℕ → Bool) (cs : List CallMade) → CallsAsk TellsNoIdleSlice cs → CallsAsk (IsTold (slices_alone d)) cs
+slices_asked d cs asks = calls_more TellsNoIdleSlice (IsTold (slices_alone d)) (λ w q k. (query_shown d q, inr k)) cs asks
+
+-- nor do those that read nothing that is hidden
+pub parts_asked : (h : Hidden) (cs : List CallMade) → CallsAsk (λ w. ReadsNone h) cs → CallsAsk (IsTold (parts_alone h)) cs
+parts_asked h cs asks = calls_more (λ w. ReadsNone h) (IsTold (parts_alone h)) (λ w q k. (k, inl (λ u. refl))) cs asks

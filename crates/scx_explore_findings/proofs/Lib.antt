@@ -3,9 +3,9 @@ pub mod IdleRecords
 mod Omitting
 mod IdleTasks
 pub mod Worlds
-pub mod Queries
 pub mod Helpers
 pub mod Runs
+mod Answered
 pub mod WorldSizes
 pub mod EventWalk
 pub mod EventSizes

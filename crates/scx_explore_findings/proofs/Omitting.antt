@@ -41,6 +41,10 @@ pub if_any : {X Y : Type 0} (d : ℕ → Bool) → (X → Y) → IfAny d X → I
 if_any d f (inl none) = inl none
 if_any d f (inr x) = inr (f x)
 
+pub if_both : {X Y Z : Type 0} (d : ℕ → Bool) → (X → Y → Z) → IfAny d X → IfAny d Y → IfAny d Z
+if_both d f (inl none) y = inl none
+if_both d f (inr x) y = if_any d (f x) y
+
 module _ (h : Hidden) where
   -- ---- records
 

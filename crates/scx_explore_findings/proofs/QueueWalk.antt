@@ -44,7 +44,7 @@ use Rattle.scx_sched_machine.specs.Events.{insert_or_put, inserted_by_choice, ch
 use Rattle.scx_sched_machine.proofs.Choices.{keeps_if}
 use Rattle.scx_explore_findings.specs.Between.{EventsKeepQueuesSound}
 use Rattle.scx_explore_findings.proofs.Helpers.{by_helper}
-use Rattle.scx_explore_findings.proofs.Queries.{IsAllowed, stores_allowed, asks_allowed, run_keeps}
+use Rattle.scx_explore_states.proofs.Queries.{IsAllowed, stores_allowed, asks_allowed, run_keeps}
 use Rattle.scx_explore_findings.proofs.EventWalk.{cycled_anyhow, IsKeptBySmallSteps, eject_policy, call_back_policy, put_policy, settled_policy, walk_after}
 
 apart : (b : Bool) → b ≡ true → b ≡ false → ⊥

@@ -29,7 +29,7 @@ use Rattle.scx_sched_machine.specs.Put.{enters, enqueue_choice, enters_builtin, 
 use Rattle.scx_sched_machine.specs.Events.{insert_or_put}
 use Rattle.scx_sched_machine.proofs.Choices.{keeps_if}
 use Rattle.scx_explore_findings.proofs.Helpers.{by_helper}
-use Rattle.scx_explore_findings.proofs.Queries.{run_keeps, MayAskAt}
+use Rattle.scx_explore_states.proofs.Queries.{run_keeps, MayAskAt}
 use Rattle.scx_explore_findings.proofs.EventWalk.{cycled_anyhow, IsKeptBySmallSteps, eject_policy, call_back_policy, put_policy, settled_policy, walk_after}
 use Rattle.scx_isa_semantics.specs.declared.host_tables.Field.{Field}
 use Rattle.scx_isa_semantics.specs.declared.host_tables.TaskId.{TaskId}

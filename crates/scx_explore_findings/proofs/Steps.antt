@@ -1,5 +1,5 @@
 -- Callbacks, ejections and puts lead from two states that are the same but for what is left out to two such states.
-use Rattle.std.proofs.Common.{◌≡◌, ℕ, zero, suc, Bool, true, false, cond, List, [], ◌∷◌, ◌++◌, length, map, ◌&&◌, Option, Some, None, is_some, refl, sym, ap, ◌∙◌, subst, ◌==◌, nat_lt, arith}
+use Rattle.std.proofs.Common.{◌≡◌, ℕ, zero, suc, Bool, true, false, cond, List, [], ◌∷◌, ◌++◌, length, map, ◌&&◌, Option, Some, None, is_some, refl, sym, ap, ◌∙◌, subst, ◌==◌, nat_lt, arith, ◌⊎◌, inl, inr}
 use mathlib.Core.List.{map-append}
 use Rattle.scx_dsq.specs.Queues.{front_of}
 use Rattle.scx_isa_semantics.specs.declared.callbacks.Callback.{Callback}
@@ -25,7 +25,8 @@ use Rattle.scx_sched_machine.specs.Callbacks.{call_ending, after_callback, calls
 use Rattle.scx_sched_machine.specs.Put.{enters, enqueue_choice, enters_builtin, comes_in, put}
 use Rattle.scx_sched_machine.specs.Filling.{move_note, fill}
 use Rattle.scx_sched_machine.specs.Parking.{park, if_throttled, throttled_front, park_then, park_next, clear, in_reach, supply}
-use Rattle.scx_explore_findings.specs.Unread.{IsUnread}
+use Rattle.scx_explore_findings.specs.Asked.{IfAsksAnyhow, AskAnyhow, CallsAsk}
+use Rattle.scx_explore_findings.specs.Unread.{ReadsNone}
 use Rattle.scx_sched_machine.proofs.Choices.{keeps_if}
 use Rattle.std.proofs.lemmas.Bool.{eqb-true}
 use Rattle.scx_sched_world.proofs.Fronts.{front_in}
@@ -35,18 +36,14 @@ use Rattle.scx_explore_findings.proofs.Records.{alike_if}
 use Rattle.scx_explore_findings.proofs.Omitting.{Omitted, omit, omit_state, omit_call, omit_step, IfAny, if_any}
 use Rattle.scx_explore_findings.proofs.IdleTasks.{queued_busy, MayEnter, Given, Held, may_enter}
 use Rattle.scx_explore_findings.proofs.Worlds.{Same, Hides, plain, both, throttled_same, hides_enter, hides_brought, hides_parked, hides_parked_from, hides_put_builtin, hides_move_over, move_notes_same, hides_cut}
-use Rattle.scx_explore_findings.proofs.Helpers.{Wants}
-use Rattle.scx_explore_findings.proofs.Runs.{TellsNothing, omit_ending, program_same, program_wants}
+use Rattle.scx_explore_findings.proofs.Helpers.{IsTold, Wants}
+use Rattle.scx_explore_findings.proofs.Runs.{program_tells, calls_there, omit_ending, program_same, program_wants}
 
--- no program loads anything that is left out, and where slices are left out each insert gives one
+-- no program asks for anything that is left out, whatever it is given and answered, and where slices are left out each
+-- insert gives one
 pub record TellNothing (h : Omitted) (p : PolicyState) : Type 0 where
-  pub unread : (b : Callback) → IsUnread h.parts (program_of p b)
+  pub unread : AskAnyhow (ReadsNone h.parts) p
   pub told : IfAny h.idle (TellNoSlices p)
-
--- the same of a program, if there is one
-abbrev TellsOf : Omitted → Callback → Option VerifiedProgram → Type 0
-TellsOf h b None = Unit {0}
-TellsOf h b (Some q) = TellsNothing h b q.code
 
 -- a local queue isn't that of held tasks
 pub local_other : (c : ℕ) → (local_on c == held_queue) ≡ false
@@ -83,21 +80,90 @@ eject_wants s x =
     cut_forgets (suc n) w h = let v = after_cut n w in task_forgets (running v n) v (cut_forgets n w h)
 
 module _ (h : Omitted) (p : PolicyState) where
-  -- two steps come to the same, under that policy still
+  -- no callback that is called asks for anything that is left out
+  abbrev pub AskNone : List CallMade → Type 0
+  AskNone cs = CallsAsk (IsTold h) cs
+
+  -- no program of the policy does, or none that is called in one of two steps
+  abbrev pub Tells : Stepped → Stepped → Type 0
+  Tells r q = TellNothing h p ⊎ (AskNone r.calls ⊎ AskNone q.calls)
+
+  -- then they come to the same, under that policy still
   abbrev pub Passes : Stepped → Stepped → Type 0
-  Passes r q = (omit_step h r ≡ omit_step h q) × (r.state.policy ≡ p)
+  Passes r q = Tells r q → (omit_step h r ≡ omit_step h q) × (r.state.policy ≡ p)
 
   -- a step under that policy doesn't depend on what is left out
   abbrev pub On : (State → Stepped) → Type 0
   On f = (s : State) → s.policy ≡ p → Passes (f s) (f (omit_state h s))
 
+  -- ---- calls of steps
+
+  none_of : (xs ys : List CallMade) → AskNone (xs ++ ys) → AskNone xs × AskNone ys
+  none_of [] ys a = (tt, a)
+  none_of (x ∷ xs) ys a = let rest = none_of xs ys a.1 in ((a.0, rest.0), rest.1)
+
+  -- what is known of both steps, if it is known of lists of calls in them
+  pub tells_so : (r q r' q' : Stepped) → (AskNone r.calls → AskNone r'.calls) → (AskNone q.calls → AskNone q'.calls) → Tells r q → Tells r' q'
+  tells_so r q r' q' f g (inl tells) = inl tells
+  tells_so r q r' q' f g (inr (inl a)) = inr (inl (f a))
+  tells_so r q r' q' f g (inr (inr a)) = inr (inr (g a))
+
+  pub tells_first : (r r' q q' : Stepped) → Tells (one_after_other r r') (one_after_other q q') → Tells r q
+  tells_first r r' q q' tells = tells_so (one_after_other r r') (one_after_other q q') r q (λ a. (none_of r.calls r'.calls a).0) (λ a. (none_of q.calls q'.calls a).0) tells
+
+  pub tells_second : (r r' q q' : Stepped) → Tells (one_after_other r r') (one_after_other q q') → Tells r' q'
+  tells_second r r' q q' tells = tells_so (one_after_other r r') (one_after_other q q') r' q' (λ a. (none_of r.calls r'.calls a).1) (λ a. (none_of q.calls q'.calls a).1) tells
+
+  none_both : (xs ys : List CallMade) → AskNone xs → AskNone ys → AskNone (xs ++ ys)
+  none_both [] ys a b = b
+  none_both (x ∷ xs) ys a b = (a.0, none_both xs ys a.1 b)
+
+  -- of the first two of three steps
+  pub tells_two : (r r' r'' q q' q'' : Stepped) → Tells (one_after_other r (one_after_other r' r'')) (one_after_other q (one_after_other q' q'')) → Tells (one_after_other r r') (one_after_other q q')
+  tells_two r r' r'' q q' q'' tells =
+      tells_so (one_after_other r (one_after_other r' r'')) (one_after_other q (one_after_other q' q'')) (one_after_other r r') (one_after_other q q') (two r r' r'') (two q q' q'') tells
+    where
+      two : (x y z : Stepped) → AskNone (x.calls ++ (y.calls ++ z.calls)) → AskNone (x.calls ++ y.calls)
+      two x y z a = let of = none_of x.calls (y.calls ++ z.calls) a in none_both x.calls y.calls of.0 (none_of y.calls z.calls of.1).0
+
+  first_if : (b : Bool) (r r' : Stepped) → AskNone (cond b (one_after_other r r') r).calls → AskNone r.calls
+  first_if true r r' a = (none_of r.calls r'.calls a).0
+  first_if false r r' a = a
+
+  -- of a step that is followed by another one where a test says so
+  pub tells_first_if : (b c : Bool) (r r' q q' : Stepped) → Tells (cond b (one_after_other r r') r) (cond c (one_after_other q q') q) → Tells r q
+  tells_first_if b c r r' q q' tells = tells_so (cond b (one_after_other r r') r) (cond c (one_after_other q q') q) r q (first_if b r r') (first_if c q q') tells
+
+  -- steps with the same calls but for what is left out
+  calls_as : (r q : Stepped) → omit_step h r ≡ omit_step h q → AskNone r.calls → AskNone q.calls
+  calls_as r q e a = calls_there h r.calls q.calls (ap (λ (x : Stepped). x.calls) e) a
+
   -- ---- how steps are made of others
+
+  -- of two steps that come to the same as two others, which are one
+  meet : (r r' q q' : Stepped) → (Tells r r' → omit_step h r ≡ omit_step h r') → (Tells q q' → omit_step h q ≡ omit_step h q') → r' ≡ q' → Tells r q → omit_step h r ≡ omit_step h q
+  meet r r' q q' one other e (inl tells) = one (inl tells) ∙ ap (omit_step h) e ∙ sym (other (inl tells))
+  meet r r' q q' one other e (inr (inl a)) =
+      let x = one (inr (inl a)) in
+      x ∙ ap (omit_step h) e ∙ sym (other (inr (inr (subst (λ (y : Stepped). AskNone y.calls) e (calls_as r r' x a)))))
+  meet r r' q q' one other e (inr (inr a)) =
+      let y = other (inr (inl a)) in
+      one (inr (inr (subst (λ (x : Stepped). AskNone x.calls) (sym e) (calls_as q q' y a)))) ∙ ap (omit_step h) e ∙ sym y
+
+  -- the policy stays in steps of which nothing is known of the other one
+  kept_as : (r r' q q' : Stepped) → Passes r r' → Passes q q' → r' ≡ q' → Tells r q → r.state.policy ≡ p
+  kept_as r r' q q' one other e (inl tells) = (one (inl tells)).1
+  kept_as r r' q q' one other e (inr (inl a)) = (one (inr (inl a))).1
+  kept_as r r' q q' one other e (inr (inr a)) = (one (inr (inr (subst (λ (x : Stepped). AskNone x.calls) (sym e) (calls_as q q' (other (inr (inl a))).0 a))))).1
+
+  pub joined_alike : (r r' q q' : Stepped) → Passes r r' → Passes q q' → r' ≡ q' → Passes r q
+  joined_alike r r' q q' one other e tells = (meet r r' q q' (λ k. (one k).0) (λ k. (other k).0) e tells, kept_as r r' q q' one other e tells)
 
   -- from two states that are the same such a step comes to the same
   pub from : (f : State → Stepped) → On f → (s t : State) → omit_state h s ≡ omit_state h t → s.policy ≡ p → Passes (f s) (f t)
   from f on s t e is =
       let there : t.policy ≡ p = sym (ap (λ (x : State). x.policy) e) ∙ is in
-      ((on s is).0 ∙ ap (λ (x : State). omit_step h (f x)) e ∙ sym (on t there).0, (on s is).1)
+      joined_alike (f s) (f (omit_state h s)) (f t) (f (omit_state h t)) (on s is) (on t there) (ap f e)
 
   -- where what a callback wants has a slice, if slices are left out
   abbrev pub OnGiven : (State → Stepped) → Type 0
@@ -107,7 +173,7 @@ module _ (h : Omitted) (p : PolicyState) where
   from_given f on s t e is wants =
       let there : t.policy ≡ p = sym (ap (λ (x : State). x.policy) e) ∙ is in
       let same : s.world.call.insert ≡ t.world.call.insert = ap (λ (x : State). x.world.call.insert) e in
-      ((on s is wants).0 ∙ ap (λ (x : State). omit_step h (f x)) e ∙ sym (on t there (if_any h.idle (subst Wants same) wants)).0, (on s is wants).1)
+      joined_alike (f s) (f (omit_state h s)) (f t) (f (omit_state h t)) (on s is wants) (on t there (if_any h.idle (subst Wants same) wants)) (ap f e)
 
   -- from two worlds that are the same
   pub in_world : (f : State → Stepped) → On f → (s : State) (v w : WorldState) → Same h v w → s.policy ≡ p → Passes (f (with_world s v)) (f (with_world (omit_state h s) w))
@@ -127,11 +193,11 @@ module _ (h : Omitted) (p : PolicyState) where
 
   -- a step, and then such a change
   pub turned : (k : State → State) → Turns k → (r q : Stepped) → Passes r q → Passes (record r { state = k r.state }) (record q { state = k q.state })
-  turned k turn r q x = (
+  turned k turn r q x tells = (
     ap (λ (u : State). record r { state = u; calls = (omit_step h r).calls }) (turn r.state).0
-        ∙ ap (λ (u : Stepped). record u { state = omit_state h (k u.state) }) x.0
+        ∙ ap (λ (u : Stepped). record u { state = omit_state h (k u.state) }) (x tells).0
         ∙ sym (ap (λ (u : State). record q { state = u; calls = (omit_step h q).calls }) (turn q.state).0),
-    (turn r.state).1 ∙ x.1,
+    (turn r.state).1 ∙ (x tells).1,
   )
 
   -- the world is changed where a test says so
@@ -144,19 +210,23 @@ module _ (h : Omitted) (p : PolicyState) where
   joined : (r q : Stepped) → omit_step h (one_after_other r q) ≡ one_after_other (omit_step h r) (omit_step h q)
   joined r q = ap (λ (cs : List CallMade). record { state = omit_state h q.state; notes = r.notes ++ q.notes; calls = cs }) (map-append (omit_call h) r.calls q.calls)
 
-  pub joins : (r q r' q' : Stepped) → Passes r q → Passes r' q' → Passes (one_after_other r r') (one_after_other q q')
-  joins r q r' q' e x = (joined r r' ∙ ap (λ (y : Stepped). one_after_other y (omit_step h r')) e.0 ∙ ap (λ (y : Stepped). one_after_other (omit_step h q) y) x.0 ∙ sym (joined q q'), x.1)
+  pub joins : (r q r' q' : Stepped) → Passes r q → (omit_step h r ≡ omit_step h q → r.state.policy ≡ p → Passes r' q') → Passes (one_after_other r r') (one_after_other q q')
+  joins r q r' q' first then tells =
+      let e = first (tells_first r r' q q' tells) in
+      let x = then e.0 e.1 (tells_second r r' q q' tells) in
+      (joined r r' ∙ ap (λ (y : Stepped). one_after_other y (omit_step h r')) e.0 ∙ ap (λ (y : Stepped). one_after_other (omit_step h q) y) x.0 ∙ sym (joined q q'), x.1)
 
   -- one after another
   pub chain : (r q : Stepped) (f : State → Stepped) → Passes r q → On f → Passes (one_after_other r (f r.state)) (one_after_other q (f q.state))
-  chain r q f e on = joins r q (f r.state) (f q.state) e (from f on r.state q.state (ap (λ (y : Stepped). y.state) e.0) e.1)
+  chain r q f first on = joins r q (f r.state) (f q.state) first (λ e is. from f on r.state q.state (ap (λ (y : Stepped). y.state) e) is)
 
-  pub chain_given : (r q : Stepped) (f : State → Stepped) → Passes r q → IfAny h.idle (Wants r.state.world.call.insert) → OnGiven f → Passes (one_after_other r (f r.state)) (one_after_other q (f q.state))
-  chain_given r q f e wants on = joins r q (f r.state) (f q.state) e (from_given f on r.state q.state (ap (λ (y : Stepped). y.state) e.0) e.1 wants)
+  pub chain_given : (r q : Stepped) (f : State → Stepped) → Passes r q → (Tells r q → IfAny h.idle (Wants r.state.world.call.insert)) → OnGiven f → Passes (one_after_other r (f r.state)) (one_after_other q (f q.state))
+  chain_given r q f first wants on tells =
+      joins r q (f r.state) (f q.state) first (λ e is. from_given f on r.state q.state (ap (λ (y : Stepped). y.state) e) is (wants (tells_first r (f r.state) q (f q.state) tells))) tells
 
   -- with notes in front
   pub noted : (ns : List Note) (r q : Stepped) → Passes r q → Passes (after ns r) (after ns q)
-  noted ns r q e = (ap (λ (y : Stepped). after ns y) e.0, e.1)
+  noted ns r q e tells = (ap (λ (y : Stepped). after ns y) (e tells).0, (e tells).1)
 
   -- one of two
   pub choose : (b c : Bool) (r r' q q' : Stepped) → b ≡ c → Passes r r' → Passes q q' → Passes (cond b r q) (cond c r' q')
@@ -171,7 +241,7 @@ module _ (h : Omitted) (p : PolicyState) where
 
   -- a step that changes the world alone, and notes that
   pub single : (s : State) (v w : WorldState) (ns ms : List Note) → Same h v w → ns ≡ ms → s.policy ≡ p → Passes (record { state = with_world s v; notes = ns; calls = [] }) (record { state = with_world (omit_state h s) w; notes = ms; calls = [] })
-  single s v w ns ms e f is =
+  single s v w ns ms e f is tells =
       (ap (λ (u : WorldState). made s u ns) e ∙ ap (λ (us : List Note). made s (omit h w) us) f, is)
 
   -- nothing is done
@@ -202,141 +272,179 @@ module _ (h : Omitted) (p : PolicyState) where
 
   -- ---- callbacks
 
-  module _ (tells : TellNothing h p) where
-    tells_of : (b : Callback) → TellsOf h b (program_of p b)
-    tells_of b = go (program_of p b) (tells.unread b) (if_any h.idle (λ told. told b) tells.told)
-      where
-        go : (q : Option VerifiedProgram) → IsUnread h.parts q → IfAny h.idle (TellsNoSlice b q) → TellsOf h b q
-        go None unread told = tt
-        go (Some q) unread told = record { unread = unread; told = told }
+  -- the run of a program, if there is one, asks for nothing that is left out
+  abbrev AsksIn : Option VerifiedProgram → Callback → Args → Maps → WorldState → Type 0
+  AsksIn q b a maps w = AskNone (calls_of q b a maps w)
 
-    tells_acting : (s : State) (b : Callback) → s.policy ≡ p → TellsOf h b (acting s b)
-    tells_acting s b is = go s.world.ejected
-      where
-        go : (o : Option Eject) → TellsOf h b (unless_ejected o (program_of s.policy b))
-        go None = subst (λ (x : PolicyState). TellsOf h b (program_of x b)) (sym is) (tells_of b)
-        go (Some x) = tt
+  -- as that of no program of such a policy does
+  tells_acting : TellNothing h p → (s : State) (b : Callback) (a : Args) (w : WorldState) → s.policy ≡ p → AsksIn (acting s b) b a s.maps w
+  tells_acting tells s b a w is = unless s.world.ejected
+    where
+      of_program : (o : Option VerifiedProgram) → IfAsksAnyhow (ReadsNone h.parts) b o → IfAny h.idle (IfAsksAnyhow TellsNoSlice b o) → AsksIn o b a s.maps w
+      of_program None unread told = tt
+      of_program (Some q) unread told = (λ n. program_tells h b q.code unread told n (program_arguments a) s.maps w, tt)
 
-    -- how a callback ends
-    called_same : (q : Option VerifiedProgram) (b : Callback) → TellsOf h b q → (a : Args) (maps : Maps) (w : WorldState) → omit_ending h (call_ending q b a maps w) ≡ omit_ending h (call_ending q b a maps (omit h w))
-    unfolding call_ending
-    called_same None b fine a maps w = ap (λ (v : WorldState). record { answer = Some 0; maps = maps; outside = v }) (plain h w)
-    called_same (Some q) b fine a maps w = program_same h b q.code fine (program_arguments a) maps w
+      unless : (o : Option Eject) → AsksIn (unless_ejected o (program_of s.policy b)) b a s.maps w
+      unless None = subst (λ (x : PolicyState). AsksIn (program_of x b) b a s.maps w) (sym is) (of_program (program_of p b) (tells.unread b) (if_any h.idle (λ told. told b) tells.told))
+      unless (Some x) = tt
 
-    end_same : (s : State) (b : Callback) (a : Args) (t c : ℕ) → s.policy ≡ p → omit_ending h (call_ending (acting s b) b a s.maps (at_callback s.world b t c)) ≡ omit_ending h (call_ending (acting s b) b a s.maps (at_callback (omit h s.world) b t c))
-    end_same s b a t c is = called_same (acting s b) b (tells_acting s b is) a s.maps (at_callback s.world b t c)
+  -- how a callback ends
+  called_same : (q : Option VerifiedProgram) (b : Callback) (a : Args) (maps : Maps) (v w : WorldState) → omit h v ≡ omit h w → AsksIn q b a maps v → omit_ending h (call_ending q b a maps v) ≡ omit_ending h (call_ending q b a maps w)
+  unfolding call_ending
+  called_same None b a maps v w same asks = ap (λ (x : WorldState). record { answer = Some 0; maps = maps; outside = x }) same
+  called_same (Some q) b a maps v w same asks = program_same h b q.code (program_arguments a) maps v w same asks.0
+
+  -- what it wants to insert has a slice
+  called_wants : (q : Option VerifiedProgram) (b : Callback) (a : Args) (maps : Maps) (w : WorldState) → AsksIn q b a maps w → IfAny h.idle (Wants w.call.insert) → IfAny h.idle (Wants (call_ending q b a maps w).outside.call.insert)
+  unfolding call_ending
+  called_wants None b a maps w asks k = k
+  called_wants (Some q) b a maps w asks k = program_wants h b q.code (program_arguments a) maps w asks.0 k
+
+  module _ (b : Callback) (a : Args) (t c : ℕ) (s : State) (is : s.policy ≡ p) where
+    -- the world as the callback begins
+    abbrev begun : WorldState
+    begun = at_callback s.world b t c
+
+    -- what is known of the callback
+    abbrev Asks : Type 0
+    Asks = TellNothing h p ⊎ (AsksIn (acting s b) b a s.maps begun ⊎ AsksIn (acting s b) b a s.maps (omit h begun))
+
+    -- what is called once it has ended
+    abbrev later_calls : WorldState → List CallMade
+    later_calls w = let e = call_ending (acting s b) b a s.maps w in (ejected_for (cause_of b e) (after_callback s.policy e)).calls
+
+    called_first : (q : Option VerifiedProgram) (w : WorldState) (cs : List CallMade) → AskNone (calls_of q b a s.maps w ++ cs) → AsksIn q b a s.maps w
+    called_first q w cs asks = (none_of (calls_of q b a s.maps w) cs asks).0
+
+    asks_of : Tells (call_back s b a t c) (call_back (omit_state h s) b a t c) → Asks
+    unfolding call_back
+    asks_of (inl tells) = inl tells
+    asks_of (inr (inl k)) = inr (inl (called_first (acting s b) begun (later_calls begun) k))
+    asks_of (inr (inr k)) = inr (inr (called_first (acting s b) (omit h begun) (later_calls (omit h begun)) k))
+
+    end_same : Asks → omit_ending h (call_ending (acting s b) b a s.maps begun) ≡ omit_ending h (call_ending (acting s b) b a s.maps (omit h begun))
+    end_same (inl tells) = called_same (acting s b) b a s.maps begun (omit h begun) (plain h begun) (tells_acting tells s b a begun is)
+    end_same (inr (inl k)) = called_same (acting s b) b a s.maps begun (omit h begun) (plain h begun) k
+    end_same (inr (inr k)) = sym (called_same (acting s b) b a s.maps (omit h begun) begun (sym (plain h begun)) k)
 
     -- what it answers
-    pub answered_same : (s : State) (b : Callback) (a : Args) (t c : ℕ) → s.policy ≡ p → answered_by s b a t c ≡ answered_by (omit_state h s) b a t c
+    pub answered_same : Tells (call_back s b a t c) (call_back (omit_state h s) b a t c) → answered_by s b a t c ≡ answered_by (omit_state h s) b a t c
     unfolding answered_by
-    answered_same s b a t c is = ap (λ (e : Ending WorldState). e.answer) (end_same s b a t c is)
+    answered_same tells = ap (λ (e : Ending WorldState). e.answer) (end_same (asks_of tells))
 
     -- and what it notes
-    pub noted_same : (s : State) (b : Callback) (a : Args) (t c : ℕ) → s.policy ≡ p → noted_by s b a t c ≡ noted_by (omit_state h s) b a t c
+    pub noted_same : Tells (call_back s b a t c) (call_back (omit_state h s) b a t c) → noted_by s b a t c ≡ noted_by (omit_state h s) b a t c
     unfolding noted_by
-    noted_same s b a t c is = ap (λ (e : Ending WorldState). e.outside.notes) (end_same s b a t c is)
+    noted_same tells = ap (λ (e : Ending WorldState). e.outside.notes) (end_same (asks_of tells))
 
-    calls_same : (q : Option VerifiedProgram) (b : Callback) (a : Args) (maps : Maps) (w : WorldState) → map (omit_call h) (calls_of q b a maps w) ≡ map (omit_call h) (calls_of q b a maps (omit h w))
-    calls_same None b a maps w = refl
-    calls_same (Some q) b a maps w = ap (λ (v : WorldState). record { callback = b; program = q; arguments = a; maps = maps; world = v } ∷ []) (plain h w)
+    end_wants : Asks → IfAny h.idle (Wants (call_ending (acting s b) b a s.maps begun).outside.call.insert)
+    end_wants (inl tells) = called_wants (acting s b) b a s.maps begun (tells_acting tells s b a begun is) (inr tt)
+    end_wants (inr (inl k)) = called_wants (acting s b) b a s.maps begun k (inr tt)
+    end_wants (inr (inr k)) =
+        if_any h.idle (subst Wants (sym (ap (λ (e : Ending WorldState). e.outside.call.insert) (end_same (inr (inr k))))))
+        (called_wants (acting s b) b a s.maps (omit h begun) k (inr tt))
 
-    answer_fault_same : (b : Callback) (w : WorldState) (n : ℕ) → answer_fault b w n ≡ answer_fault b (omit h w) n
-    answer_fault_same callback.SelectCpu w n = refl
-    answer_fault_same b w n = refl
+  calls_same : (q : Option VerifiedProgram) (b : Callback) (a : Args) (maps : Maps) (w : WorldState) → map (omit_call h) (calls_of q b a maps w) ≡ map (omit_call h) (calls_of q b a maps (omit h w))
+  calls_same None b a maps w = refl
+  calls_same (Some q) b a maps w = ap (λ (v : WorldState). record { callback = b; program = q; arguments = a; maps = maps; world = v } ∷ []) (plain h w)
 
-    end_fault_same : (b : Callback) (w : WorldState) (o : Option ℕ) → end_fault b w o ≡ end_fault b (omit h w) o
-    end_fault_same b w None = refl
-    end_fault_same b w (Some n) = answer_fault_same b w n
+  answer_fault_same : (b : Callback) (w : WorldState) (n : ℕ) → answer_fault b w n ≡ answer_fault b (omit h w) n
+  answer_fault_same callback.SelectCpu w n = refl
+  answer_fault_same b w n = refl
 
-    cause_shown : (b : Callback) (e : Ending WorldState) → cause_of b e ≡ cause_of b (omit_ending h e)
-    cause_shown b e = ap (λ (o : Option Fault). or_cause e.outside.call.cause (as_cause o)) (end_fault_same b e.outside e.answer)
+  end_fault_same : (b : Callback) (w : WorldState) (o : Option ℕ) → end_fault b w o ≡ end_fault b (omit h w) o
+  end_fault_same b w None = refl
+  end_fault_same b w (Some n) = answer_fault_same b w n
 
-    cause_same : (b : Callback) (e f : Ending WorldState) → omit_ending h e ≡ omit_ending h f → cause_of b e ≡ cause_of b f
-    cause_same b e f x = cause_shown b e ∙ ap (cause_of b) x ∙ sym (cause_shown b f)
+  cause_shown : (b : Callback) (e : Ending WorldState) → cause_of b e ≡ cause_of b (omit_ending h e)
+  cause_shown b e = ap (λ (o : Option Fault). or_cause e.outside.call.cause (as_cause o)) (end_fault_same b e.outside e.answer)
 
-    -- what a callback leaves, before its cause is looked at
-    abbrev ended : PolicyState → List CallMade → Ending WorldState → Stepped
-    ended q cs e = record { state = after_callback q e; notes = e.outside.notes; calls = cs }
+  cause_same : (b : Callback) (e f : Ending WorldState) → omit_ending h e ≡ omit_ending h f → cause_of b e ≡ cause_of b f
+  cause_same b e f x = cause_shown b e ∙ ap (cause_of b) x ∙ sym (cause_shown b f)
 
-    ended_same : (q : PolicyState) (cs ds : List CallMade) (e f : Ending WorldState) → q ≡ p → map (omit_call h) cs ≡ map (omit_call h) ds → omit_ending h e ≡ omit_ending h f → Passes (ended q cs e) (ended q ds f)
-    ended_same q cs ds e f is x y =
-        (ap (λ (us : List CallMade). ended q us (omit_ending h e)) x ∙ ap (λ (u : Ending WorldState). ended q (map (omit_call h) ds) u) y, is)
+  -- what a callback leaves, before its cause is looked at
+  abbrev ended : PolicyState → List CallMade → Ending WorldState → Stepped
+  ended q cs e = record { state = after_callback q e; notes = e.outside.notes; calls = cs }
 
-    -- a callback is called, and what follows it
-    pub passes_call_back : (b : Callback) (a : Args) (t c : ℕ) → On (λ s. call_back s b a t c)
-    unfolding call_back
-    passes_call_back b a t c s is =
-        let w = at_callback s.world b t c in
-        let e = call_ending (acting s b) b a s.maps w in
-        let f = call_ending (acting s b) b a s.maps (at_callback (omit h s.world) b t c) in
-        let cs = calls_of (acting s b) b a s.maps w in
-        let ds = calls_of (acting s b) b a s.maps (at_callback (omit h s.world) b t c) in
-        let first = ended_same s.policy cs ds e f is (calls_same (acting s b) b a s.maps w) (end_same s b a t c is) in
-        subst (λ (o : Option Cause). Passes (one_after_other (ended s.policy cs e) (ejected_for (cause_of b e) (after_callback s.policy e))) (one_after_other (ended s.policy ds f) (ejected_for o (after_callback s.policy f))))
-        (cause_same b e f (end_same s b a t c is)) (chain (ended s.policy cs e) (ended s.policy ds f) (ejected_for (cause_of b e)) first (passes_ejected_for (cause_of b e)))
+  ended_same : (q : PolicyState) (cs ds : List CallMade) (e f : Ending WorldState) → q ≡ p → map (omit_call h) cs ≡ map (omit_call h) ds → omit_ending h e ≡ omit_ending h f → Passes (ended q cs e) (ended q ds f)
+  ended_same q cs ds e f is x y tells =
+      (ap (λ (us : List CallMade). ended q us (omit_ending h e)) x ∙ ap (λ (u : Ending WorldState). ended q (map (omit_call h) ds) u) y, is)
 
-    -- a callback that Linux rules call more
-    pub passes_call_by_linux : (b : Callback) (a : Args) (t c : ℕ) → On (λ s. call_by_linux s b a t c)
-    unfolding call_by_linux
-    passes_call_by_linux b a t c s is =
-        let is_called = is_by_linux s && is_some (program_of s.policy b) in
-        choose is_called is_called (call_back s b a t c) (call_back (omit_state h s) b a t c) (stays s) (stays (omit_state h s)) refl (passes_call_back b a t c s is) (rests s is)
+  -- a callback is called, and what follows it
+  pub passes_call_back : (b : Callback) (a : Args) (t c : ℕ) → On (λ s. call_back s b a t c)
+  unfolding call_back
+  passes_call_back b a t c s is tells = go (end_same b a t c s is (asks_of b a t c s is tells)) tells
+    where
+      w : WorldState
+      w = at_callback s.world b t c
 
-    -- ---- a task that is put
+      e : Ending WorldState
+      e = call_ending (acting s b) b a s.maps w
 
-    -- a task comes to wait where an insert wants it
-    pub passes_enters : (t : ℕ) (i : Insert) → MayEnter h.idle t i → On (λ s. enters s t i)
-    unfolding enters
-    passes_enters t i may s is = single s (after_enter s.world t i) (after_enter (omit h s.world) t i) _ _ (hides_enter h t i may s.world) refl is
+      f : Ending WorldState
+      f = call_ending (acting s b) b a s.maps (omit h w)
 
-    passes_enters_builtin : (t : ℕ) → On (λ s. enters_builtin s t)
-    unfolding enters_builtin
-    passes_enters_builtin t s is = single s (put_builtin s.world t) (put_builtin (omit h s.world) t) _ _ (hides_put_builtin h t s.world) refl is
+      cs : List CallMade
+      cs = calls_of (acting s b) b a s.maps w
 
-    -- where enqueue wants it a task is given a slice, or it is held
-    given_choice : (q : Option VerifiedProgram) (t c : ℕ) (o : Option Insert) → IfAny h.idle (Wants o) → MayEnter h.idle t (enqueue_choice q c o)
-    given_choice None t c o wants = Given refl
-    given_choice (Some x) t c None wants = Held refl
-    given_choice (Some x) t c (Some i) wants = may_enter h.idle t (enqueue_choice (Some x) c (Some i)) wants
+      ds : List CallMade
+      ds = calls_of (acting s b) b a s.maps (omit h w)
 
-    passes_comes_in : (t c : ℕ) → OnGiven (λ s. comes_in s t c)
-    unfolding comes_in
-    passes_comes_in t c s is wants =
-        let i = enqueue_choice s.policy.callbacks.enqueue c s.world.call.insert in
-        choose (is_ejected s) (is_ejected s) (enters_builtin s t) (enters_builtin (omit_state h s) t) (enters s t i) (enters (omit_state h s) t i) refl (passes_enters_builtin t s is)
-        (passes_enters t i (given_choice s.policy.callbacks.enqueue t c s.world.call.insert wants) s is)
+      go : omit_ending h e ≡ omit_ending h f → Passes (call_back s b a t c) (call_back (omit_state h s) b a t c)
+      go same =
+          subst (λ (o : Option Cause). Passes (one_after_other (ended s.policy cs e) (ejected_for (cause_of b e) (after_callback s.policy e))) (one_after_other (ended s.policy ds f) (ejected_for o (after_callback s.policy f))))
+          (cause_same b e f same)
+          (chain (ended s.policy cs e) (ended s.policy ds f) (ejected_for (cause_of b e)) (ended_same s.policy cs ds e f is (calls_same (acting s b) b a s.maps w) same) (passes_ejected_for (cause_of b e)))
 
-    -- what a callback wants has a slice, as its program gives one, and an ejection forgets it
-    ejected_wants : (o : Option Cause) (s : State) → Wants s.world.call.insert → Wants (ejected_for o s).state.world.call.insert
-    ejected_wants None s k = k
-    ejected_wants (Some x) s k = eject_wants s (eject_of x s.world.clock)
+  -- a callback that Linux rules call more
+  pub passes_call_by_linux : (b : Callback) (a : Args) (t c : ℕ) → On (λ s. call_by_linux s b a t c)
+  unfolding call_by_linux
+  passes_call_by_linux b a t c s is =
+      let is_called = is_by_linux s && is_some (program_of s.policy b) in
+      choose is_called is_called (call_back s b a t c) (call_back (omit_state h s) b a t c) (stays s) (stays (omit_state h s)) refl (passes_call_back b a t c s is) (rests s is)
 
-    called_wants : (q : Option VerifiedProgram) (b : Callback) → TellsNoSlice b q → (a : Args) (maps : Maps) (w : WorldState) → Wants w.call.insert → Wants (call_ending q b a maps w).outside.call.insert
-    unfolding call_ending
-    called_wants None b fine a maps w k = k
-    called_wants (Some q) b fine a maps w k = program_wants b q.code fine (program_arguments a) maps w k
+  -- ---- a task that is put
 
-    told_acting : TellNoSlices p → (s : State) (b : Callback) → s.policy ≡ p → TellsNoSlice b (acting s b)
-    told_acting told s b is = go s.world.ejected
-      where
-        go : (o : Option Eject) → TellsNoSlice b (unless_ejected o (program_of s.policy b))
-        go None = subst (λ (x : PolicyState). TellsNoSlice b (program_of x b)) (sym is) (told b)
-        go (Some x) = tt
+  -- a task comes to wait where an insert wants it
+  pub passes_enters : (t : ℕ) (i : Insert) → MayEnter h.idle t i → On (λ s. enters s t i)
+  unfolding enters
+  passes_enters t i may s is = single s (after_enter s.world t i) (after_enter (omit h s.world) t i) _ _ (hides_enter h t i may s.world) refl is
 
-    pub call_back_wants : (b : Callback) (a : Args) (t c : ℕ) (s : State) → s.policy ≡ p → IfAny h.idle (Wants (call_back s b a t c).state.world.call.insert)
-    unfolding call_back
-    call_back_wants b a t c s is =
-        let w = at_callback s.world b t c in
-        let e = call_ending (acting s b) b a s.maps w in
-        if_any h.idle (λ told. ejected_wants (cause_of b e) (after_callback s.policy e) (called_wants (acting s b) b (told_acting told s b is) a s.maps w tt)) tells.told
+  passes_enters_builtin : (t : ℕ) → On (λ s. enters_builtin s t)
+  unfolding enters_builtin
+  passes_enters_builtin t s is = single s (put_builtin s.world t) (put_builtin (omit h s.world) t) _ _ (hides_put_builtin h t s.world) refl is
 
-    -- a task is put
-    pub passes_put : (t c flags : ℕ) → On (λ s. put s t c flags)
-    unfolding put
-    passes_put t c flags s is =
-        let a = task_and_number t flags in
-        chain_given (call_back s callback.Enqueue a t c) (call_back (omit_state h s) callback.Enqueue a t c) (λ r. comes_in r t c)
-        (passes_call_back callback.Enqueue a t c s is) (call_back_wants callback.Enqueue a t c s is) (passes_comes_in t c)
+  -- where enqueue wants it a task is given a slice, or it is held
+  given_choice : (q : Option VerifiedProgram) (t c : ℕ) (o : Option Insert) → IfAny h.idle (Wants o) → MayEnter h.idle t (enqueue_choice q c o)
+  given_choice None t c o wants = Given refl
+  given_choice (Some x) t c None wants = Held refl
+  given_choice (Some x) t c (Some i) wants = may_enter h.idle t (enqueue_choice (Some x) c (Some i)) wants
+
+  passes_comes_in : (t c : ℕ) → OnGiven (λ s. comes_in s t c)
+  unfolding comes_in
+  passes_comes_in t c s is wants =
+      let i = enqueue_choice s.policy.callbacks.enqueue c s.world.call.insert in
+      choose (is_ejected s) (is_ejected s) (enters_builtin s t) (enters_builtin (omit_state h s) t) (enters s t i) (enters (omit_state h s) t i) refl (passes_enters_builtin t s is)
+      (passes_enters t i (given_choice s.policy.callbacks.enqueue t c s.world.call.insert wants) s is)
+
+  -- what a callback wants has a slice, as its program gives one, and an ejection forgets it
+  ejected_wants : (o : Option Cause) (s : State) → Wants s.world.call.insert → Wants (ejected_for o s).state.world.call.insert
+  ejected_wants None s k = k
+  ejected_wants (Some x) s k = eject_wants s (eject_of x s.world.clock)
+
+  pub call_back_wants : (b : Callback) (a : Args) (t c : ℕ) (s : State) → s.policy ≡ p → Tells (call_back s b a t c) (call_back (omit_state h s) b a t c) → IfAny h.idle (Wants (call_back s b a t c).state.world.call.insert)
+  unfolding call_back
+  call_back_wants b a t c s is tells =
+      let e = call_ending (acting s b) b a s.maps (at_callback s.world b t c) in
+      if_any h.idle (ejected_wants (cause_of b e) (after_callback s.policy e)) (end_wants b a t c s is (asks_of b a t c s is tells))
+
+  -- a task is put
+  pub passes_put : (t c flags : ℕ) → On (λ s. put s t c flags)
+  unfolding put
+  passes_put t c flags s is =
+      let a = task_and_number t flags in
+      chain_given (call_back s callback.Enqueue a t c) (call_back (omit_state h s) callback.Enqueue a t c) (λ r. comes_in r t c)
+      (passes_call_back callback.Enqueue a t c s is) (call_back_wants callback.Enqueue a t c s is) (passes_comes_in t c)
 
   -- ---- local queues are filled, and their fronts parked
 

@@ -48,7 +48,7 @@ use Rattle.scx_sched_machine.specs.Steps.{State, Stepped, is_ejected}
 use Rattle.scx_sched_machine.proofs.Choices.{keeps_if}
 use Rattle.scx_sched.specs.Sim.{SimState, after_event}
 use Rattle.scx_explore_findings.proofs.Helpers.{by_helper}
-use Rattle.scx_explore_findings.proofs.Queries.{IsAllowed, stores_allowed, asks_allowed, run_keeps}
+use Rattle.scx_explore_states.proofs.Queries.{IsAllowed, stores_allowed, asks_allowed, run_keeps}
 use Rattle.scx_explore_findings.proofs.EventWalk.{IsWeighing, IsPolicy, IsKeptByAll, eject_policy, call_back_policy, put_policy, settled_policy, walk_one}
 use Rattle.scx_explore_findings.specs.WholeForms.{IsSince, AreSince, IsTidy}
 

@@ -27,7 +27,7 @@ use Rattle.scx_sched_world.specs.Helpers.{is_dispatch, with_insert, after_releas
 use Rattle.scx_sched_machine.specs.Events.{inserted_by_choice, chosen_by_default}
 use Rattle.scx_sched_machine.proofs.Choices.{keeps_if}
 use Rattle.scx_explore_findings.proofs.Helpers.{by_helper}
-use Rattle.scx_explore_findings.proofs.Queries.{IsAllowed}
+use Rattle.scx_explore_states.proofs.Queries.{IsAllowed}
 
 -- both worlds have the same queues, room for as many, and as many tasks, processors, groups and timers
 abbrev pub HasSize : WorldState → WorldState → Type 0

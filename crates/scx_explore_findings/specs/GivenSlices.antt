@@ -9,12 +9,11 @@ use Rattle.scx_isa_semantics.specs.declared.instructions.Operand.TheVariants as 
 use Rattle.scx_isa_semantics.specs.declared.operations.Operation.TheVariants.{Move}
 use Rattle.scx_isa_semantics.specs.Arithmetic.{immediate, low}
 use Rattle.scx_isa_semantics.specs.Code.{Code, at, size}
-use Rattle.scx_isa_semantics.specs.Elements.{Maps}
 use Rattle.scx_isa_semantics.specs.HostTables.{helper_at}
-use Rattle.scx_isa_semantics.specs.Machine.{Arguments, start}
 use Rattle.scx_isa_semantics.specs.Registers.{number}
 use Rattle.scx_isa_semantics.specs.Steps.{target}
-use Rattle.scx_explore_findings.specs.IdleSlices.{GivesWithin}
+use Rattle.scx_explore_states.specs.Asking.{GivesOne}
+use Rattle.scx_explore_findings.specs.Asked.{AsksAnyhow}
 
 -- the instruction moves a constant other than 0 to r3
 abbrev pub sets_slice : Insn → Bool
@@ -72,5 +71,4 @@ abbrev pub SuchProgramsGiveSlices : Type 0
 SuchProgramsGiveSlices =
     (c : Callback) (code : Code)
     → ShowsSlices code
-    → (n : ℕ) (a : Arguments) (maps : Maps)
-    → GivesWithin c code n 0 (start a maps)
+    → AsksAnyhow GivesOne c code

@@ -1,12 +1,14 @@
 -- Laws: hidden times change nothing, if no program loads them.
 use Rattle.std.specs.Prelude.{◌≡◌, ℕ, ◌<◌, true, false, List, length, None}
 use Rattle.scx_sched_machine.specs.declared.events.Event.{Event}
-use Rattle.scx_sched.specs.Sim.{SimState, IsValid}
+use Rattle.scx_sched.specs.Sim.{SimState, IsValid, calls_of}
 use Rattle.scx_load_driver.specs.Runs.{stepped_all, AreAccepted}
 use Rattle.scx_explore_states.specs.declared.form.Form.{Form}
 use Rattle.scx_explore_states.specs.Written.{IsWritten}
+use Rattle.scx_explore_findings.specs.Asked.{CallsAsk}
 use Rattle.scx_explore_findings.specs.Hidden.{Hidden}
 use Rattle.scx_explore_findings.specs.HiddenStates.{late_in}
+use Rattle.scx_explore_findings.specs.Unread.{ReadsNone}
 use Rattle.scx_explore_findings.specs.HiddenMachines.{AreSame, AreUnread, AreAsLate, StayAsLate, AnswersAlike, GoesAlike}
 
 -- two machines that are the same but for what is hidden answer an event alike
@@ -14,6 +16,15 @@ abbrev pub EventsDontDepend : Type 0
 EventsDontDepend =
     (h : Hidden) (s t : SimState) (e : Event)
     → AreUnread h s.state.policy
+    → AreSame h s t
+    → AreAsLate h s t e
+    → AnswersAlike h s t e
+
+-- so they do where no callback that one of them calls asks for what is hidden
+abbrev pub CallsDontDepend : Type 0
+CallsDontDepend =
+    (h : Hidden) (s t : SimState) (e : Event)
+    → CallsAsk (λ w. ReadsNone h) (calls_of s e)
     → AreSame h s t
     → AreAsLate h s t e
     → AnswersAlike h s t e

@@ -1,13 +1,13 @@
 -- Machines that are the same but for hidden times, and like answers of two machines.
 use Rattle.std.specs.Prelude.{◌≡◌, ⊤, true, List, [], ◌∷◌, map}
-use Rattle.scx_isa_semantics.specs.declared.callbacks.Callback.{Callback}
 use Rattle.scx_sched_machine.specs.declared.events.Event.{Event}
-use Rattle.scx_sched_policy.specs.Policy.{PolicyState, program_of}
+use Rattle.scx_sched_policy.specs.Policy.{PolicyState}
 use Rattle.scx_sched.specs.Sim.{SimState, refusal, after_event, notes_of, calls_of}
 use Rattle.scx_load_driver.specs.Runs.{stepped_all, notes_of_all, AreAccepted}
+use Rattle.scx_explore_findings.specs.Asked.{AskAnyhow}
 use Rattle.scx_explore_findings.specs.Hidden.{Hidden}
 use Rattle.scx_explore_findings.specs.HiddenStates.{hide_state, hide_call, late_in}
-use Rattle.scx_explore_findings.specs.Unread.{IsUnread}
+use Rattle.scx_explore_findings.specs.Unread.{ReadsNone}
 
 -- the machine without all that is hidden
 abbrev pub hide_machine : Hidden → SimState → SimState
@@ -27,9 +27,9 @@ StayAsLate h s t [] = ⊤
 StayAsLate h s t (e ∷ es) =
     AreAsLate h s t e × StayAsLate h (after_event s e) (after_event t e) es
 
--- no program of the policy has an instruction that loads what is hidden
+-- no program of the policy asks for what is hidden, whatever it is given and answered
 abbrev pub AreUnread : Hidden → PolicyState → Type 0
-AreUnread h p = (b : Callback) → IsUnread h (program_of p b)
+AreUnread h p = AskAnyhow (ReadsNone h) p
 
 -- Both machines answer an event alike: it is refused for the same cause or accepted by both, the
 -- same is noted, the same callbacks are called with the same arguments and maps, in worlds that are

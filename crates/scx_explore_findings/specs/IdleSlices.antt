@@ -1,36 +1,28 @@
 -- Machines in which tasks that sleep or are held have no slice: an insert gives them one before
--- anything reads it, if no program loads slices and each insert gives one.
-use Rattle.std.specs.Prelude.{◌≡◌, ℕ, zero, suc, ◌==◌, ◌&&◌, ◌||◌, not, Bool, true, false, List, [], ◌∷◌, map, if◌then◌else◌, Option, Some, None}
+-- anything reads it, if no program loads the slice of one and each insert gives one.
+use Rattle.std.specs.Prelude.{◌≡◌, ℕ, suc, ◌==◌, ◌&&◌, ◌||◌, not, Bool, true, false, List, [], ◌∷◌, if◌then◌else◌, Option, Some, None}
 use Rattle.scx_dsq.specs.declared.entries.Entry.{Entry}
 use Rattle.scx_dsq.specs.Queues.{entry_of}
 use Rattle.scx_isa_semantics.specs.declared.callbacks.Callback.{Callback}
 use Rattle.scx_isa_semantics.specs.declared.host_tables.Field.{Field}
 use Rattle.scx_isa_semantics.specs.declared.host_tables.Field.TheVariants.{Slice}
-use Rattle.scx_isa_semantics.specs.declared.host_tables.Helper.{Helper}
-use Rattle.scx_isa_semantics.specs.declared.host_tables.Helper.TheVariants.{DsqInsert, DsqInsertVtime}
 use Rattle.scx_isa_semantics.specs.declared.instructions.Insn.{Insn}
 use Rattle.scx_isa_semantics.specs.declared.instructions.Insn.TheVariants as insn
-use Rattle.scx_isa_semantics.specs.declared.values.Value.{Value}
 use Rattle.scx_isa_semantics.specs.Arithmetic.{at_distance}
 use Rattle.scx_isa_semantics.specs.Code.{Code, at}
-use Rattle.scx_isa_semantics.specs.Effects.{Query, Call}
-use Rattle.scx_isa_semantics.specs.Elements.{Maps}
+use Rattle.scx_isa_semantics.specs.Effects.{Query, Load}
 use Rattle.scx_isa_semantics.specs.HostTables.{field_at}
-use Rattle.scx_isa_semantics.specs.Machine.{Machine, Arguments, start}
 use Rattle.scx_isa_semantics.specs.Memory.{access_size, size_bytes}
-use Rattle.scx_isa_semantics.specs.Steps.{Outcome, Stuck, Goes, Asks, Ends, step}
-use Rattle.scx_vm.specs.Arguments.{argument_of}
-use Rattle.scx_vm.specs.declared.arguments.Arg.{Arg}
-use Rattle.scx_vm.specs.Programs.{VerifiedProgram}
 use Rattle.scx_sched_tasks.specs.declared.task.Task.{Task}
 use Rattle.scx_sched_world.specs.Ids.{held_queue}
-use Rattle.scx_sched_world.specs.Helpers.{given_number}
 use Rattle.scx_sched_world.specs.Tasks.{with_slice}
 use Rattle.scx_sched_world.specs.World.{WorldState, is_this}
 use Rattle.scx_sched_machine.specs.declared.events.Event.{Event}
-use Rattle.scx_sched_policy.specs.Policy.{PolicyState, program_of}
+use Rattle.scx_sched_policy.specs.Policy.{PolicyState}
 use Rattle.scx_sched_machine.specs.Steps.{State}
-use Rattle.scx_sched.specs.Sim.{SimState, refusal, after_event}
+use Rattle.scx_sched.specs.Sim.{SimState, refusal, after_event, calls_of}
+use Rattle.scx_explore_states.specs.Asking.{LoadsNo, GivesOne}
+use Rattle.scx_explore_findings.specs.Asked.{AsksAnyhow, AskAnyhow, CallsAsk}
 use Rattle.scx_explore_findings.specs.Hidden.{with_tasks}
 
 -- ---- worlds
@@ -82,6 +74,23 @@ AreSame s t =
 
 -- ---- programs
 
+-- a query loads no slice, and gives one if it inserts a task
+abbrev pub TellsNoSlice : Query → Type 0
+TellsNoSlice q = LoadsNo Slice q × GivesOne q
+
+-- each program of the policy asks such queries alone, whatever it is given and answered
+abbrev pub TellNoSlices : PolicyState → Type 0
+TellNoSlices p = AskAnyhow TellsNoSlice p
+
+-- a query loads the slice of no task that sleeps or is held
+abbrev pub LoadsBusy : WorldState → Query → Type 0
+LoadsBusy w (Load t Slice) = is_idle w t.0 ≡ false
+LoadsBusy w q = Unit {0}
+
+-- and gives a slice if it inserts a task
+abbrev pub TellsNoIdleSlice : WorldState → Query → Type 0
+TellsNoIdleSlice w q = LoadsBusy w q × GivesOne q
+
 -- it is the slice of a task; false where there is no field
 abbrev pub is_slice : Option Field → Bool
 is_slice (Some Slice) = true
@@ -93,43 +102,13 @@ loads_slice (Some (insn.Load a d b offset)) =
     is_slice (field_at (size_bytes (access_size a)) (at_distance 0 offset))
 loads_slice o = false
 
--- a helper that inserts a task is given a slice that isn't 0
-abbrev pub IsGivenSlice : Helper → List Arg → Type 0
-IsGivenSlice DsqInsert a = (given_number a 2 == 0) ≡ false
-IsGivenSlice DsqInsertVtime a = (given_number a 2 == 0) ≡ false
-IsGivenSlice f a = Unit {0}
-
--- so it is if a query calls one
-abbrev pub GivesOne : Query → Type 0
-GivesOne (Call f a) = IsGivenSlice f (map argument_of a)
-GivesOne q = Unit {0}
-
--- so does a step if it is one, and what follows it, whatever is answered
-abbrev pub StepGives : (ℕ → Machine → Type 0) → Outcome → Type 0
-StepGives on Stuck = Unit {0}
-StepGives on (Goes t m) = on t m
-StepGives on (Asks q t go) = GivesOne q × ((v : Value) → on t (go v))
-StepGives on (Ends n) = Unit {0}
-
--- from that slot on each insert of the next n steps gives a slice, whatever is answered
-abbrev pub GivesWithin : Callback → Code → ℕ → ℕ → Machine → Type 0
-GivesWithin c code zero s m = Unit {0}
-GivesWithin c code (suc n) s m = StepGives (GivesWithin c code n) (step c code s m)
-
--- no insert of a run of the program gives a slice of 0, whatever the program is given and whatever
--- it is answered; and none of its instructions loads a slice
-pub record TellsNoSliceBy (c : Callback) (code : Code) : Type 0 where
-  pub unread : (slot : ℕ) → loads_slice (at code slot) ≡ false
-  pub given : (n : ℕ) (a : Arguments) (maps : Maps) → GivesWithin c code n 0 (start a maps)
-
--- the same of a program, if there is one
-abbrev pub TellsNoSlice : Callback → Option VerifiedProgram → Type 0
-TellsNoSlice c None = Unit {0}
-TellsNoSlice c (Some p) = TellsNoSliceBy c p.code
-
--- and of each program of the policy
-abbrev pub TellNoSlices : PolicyState → Type 0
-TellNoSlices p = (b : Callback) → TellsNoSlice b (program_of p b)
+-- a program with no such instruction, of which each insert gives a slice, tells none
+abbrev pub SuchProgramsTellNoSlices : Type 0
+SuchProgramsTellNoSlices =
+    (c : Callback) (code : Code)
+    → ((slot : ℕ) → loads_slice (at code slot) ≡ false)
+    → AsksAnyhow GivesOne c code
+    → AsksAnyhow TellsNoSlice c code
 
 -- ---- the law
 
@@ -145,5 +124,13 @@ abbrev pub EventsTellNoIdleSlices : Type 0
 EventsTellNoIdleSlices =
     (s t : SimState) (e : Event)
     → TellNoSlices s.state.policy
+    → AreSame s t
+    → AnswersAlike s t e
+
+-- so they do where no callback that one of them calls tells such a slice
+abbrev pub CallsTellNoIdleSlices : Type 0
+CallsTellNoIdleSlices =
+    (s t : SimState) (e : Event)
+    → CallsAsk TellsNoIdleSlice (calls_of s e)
     → AreSame s t
     → AnswersAlike s t e

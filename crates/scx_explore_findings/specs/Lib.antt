@@ -8,6 +8,7 @@ pub mod Running
 pub mod Findings
 pub mod Counting
 pub mod Tallies
+pub mod Asked
 pub mod Hidden
 pub mod Unread
 pub mod HiddenStates

@@ -1,15 +1,19 @@
--- Programs that read nothing of what is hidden: they have no instruction that loads such a field,
--- whatever its base register holds.
+-- Programs that read nothing of what is hidden: they ask for no such field. So it is if they have
+-- no instruction that loads one, whatever its base register holds.
 use Rattle.std.specs.Prelude.{◌≡◌, ℕ, Bool, false, Option, Some, None}
+use Rattle.scx_isa_semantics.specs.declared.callbacks.Callback.{Callback}
 use Rattle.scx_isa_semantics.specs.declared.host_tables.Field.{Field}
 use Rattle.scx_isa_semantics.specs.declared.host_tables.Field.TheVariants.{DsqVtime, RunNs}
 use Rattle.scx_isa_semantics.specs.declared.instructions.Insn.{Insn}
-use Rattle.scx_isa_semantics.specs.declared.instructions.Insn.TheVariants.{Load}
+use Rattle.scx_isa_semantics.specs.declared.instructions.Insn.TheVariants as insn
 use Rattle.scx_isa_semantics.specs.Arithmetic.{at_distance}
 use Rattle.scx_isa_semantics.specs.Code.{Code, at}
+use Rattle.scx_isa_semantics.specs.Effects.{Query, Load}
 use Rattle.scx_isa_semantics.specs.HostTables.{field_at}
 use Rattle.scx_isa_semantics.specs.Memory.{access_size, size_bytes}
 use Rattle.scx_vm.specs.Programs.{VerifiedProgram}
+use Rattle.scx_sched_policy.specs.Policy.{PolicyState, program_of}
+use Rattle.scx_explore_findings.specs.Asked.{AskAnyhow}
 use Rattle.scx_explore_findings.specs.Hidden.{Hidden}
 
 -- whether that field of a task is hidden
@@ -18,7 +22,14 @@ is_hidden h RunNs = h.run_ns
 is_hidden h DsqVtime = h.vtime
 is_hidden h f = false
 
--- the same where there is a field; false where there is none
+-- a query asks for nothing that is hidden
+abbrev pub ReadsNone : Hidden → Query → Type 0
+ReadsNone h (Load t f) = is_hidden h f ≡ false
+ReadsNone h q = Unit {0}
+
+-- ---- instructions
+
+-- whether the field is hidden where there is one; false where there is none
 abbrev pub is_hidden_field : Hidden → Option Field → Bool
 is_hidden_field h None = false
 is_hidden_field h (Some f) = is_hidden h f
@@ -27,7 +38,7 @@ is_hidden_field h (Some f) = is_hidden h f
 -- of 8 bytes at 32 for how long a task has run, of 8 bytes at 16 for its virtual time
 abbrev pub may_read : Hidden → Option Insn → Bool
 may_read h None = false
-may_read h (Some (Load a d b offset)) =
+may_read h (Some (insn.Load a d b offset)) =
     is_hidden_field h (field_at (size_bytes (access_size a)) (at_distance 0 offset))
 may_read h (Some i) = false
 
@@ -39,3 +50,11 @@ IsUnreadBy h code = (slot : ℕ) → may_read h (at code slot) ≡ false
 abbrev pub IsUnread : Hidden → Option VerifiedProgram → Type 0
 IsUnread h None = Unit {0}
 IsUnread h (Some p) = IsUnreadBy h p.code
+
+-- programs with no such instruction ask for nothing that is hidden, whatever they are given and
+-- answered
+abbrev pub SuchProgramsReadNone : Type 0
+SuchProgramsReadNone =
+    (h : Hidden) (p : PolicyState)
+    → ((b : Callback) → IsUnread h (program_of p b))
+    → AskAnyhow (ReadsNone h) p

@@ -1,26 +1,39 @@
+ghost use Rattle.scx_explore_findings.specs.Asked.{AnsweredCallsGive, AnsweredCallsLoadNone};
 ghost use Rattle.scx_explore_findings.specs.FifoOnly.{FirstStatesAreInOrder, NobodyWaitsByVtime};
 ghost use Rattle.scx_explore_findings.specs.Delayed.{EventsDontTellTimes};
-ghost use Rattle.scx_explore_findings.specs.IdleSlices.{EventsTellNoIdleSlices};
+ghost use Rattle.scx_explore_findings.specs.IdleSlices.{CallsTellNoIdleSlices, EventsTellNoIdleSlices, SuchProgramsTellNoSlices};
 ghost use Rattle.scx_explore_findings.specs.GivenSlices.{SuchProgramsGiveSlices};
 ghost use Rattle.scx_explore_findings.specs.Between.{EventsKeepQueuesSound, EventsLeaveNoNotes};
 ghost use Rattle.scx_explore_findings.specs.UnreadParts.{EventsReadNoSuchPart, ListsReadNoSuchPart, SuchPartsShowNothing};
 ghost use Rattle.scx_explore_findings.specs.ReachedStates.{SameMachinesShowTheSame, ReachedStatesGoAlike};
 ghost use Rattle.scx_explore_findings.specs.HiddenLoads.{LoadsAreTold};
-ghost use Rattle.scx_explore_findings.specs.HiddenLaws.{EventsDontDepend, ListsDontDepend, NobodyIsLate, WordsDontDepend};
-
-/// An instruction that may read the run time of a task is a load of 8 bytes at the offset of that field, whatever its base
-/// register holds, and one that may read its virtual time a load of 8 bytes at the offset of that one. The function does
-/// nothing: its contract is the law.
-pub fn loads_are_told()
-    ensures { LoadsAreTold }
-{}
+ghost use Rattle.scx_explore_findings.specs.Unread.{SuchProgramsReadNone};
+ghost use Rattle.scx_explore_findings.specs.HiddenLaws.{CallsDontDepend, EventsDontDepend, ListsDontDepend, NobodyIsLate, WordsDontDepend};
 
 /// Run times, virtual times and waits of tasks may be hidden. If no program of the policy
-/// has an instruction that loads what is hidden, two machines that are the same but for that answer an event alike:
-/// refusal, notes and calls are the same, and the machines after it are again the same but for that. Where waits are
+/// asks for what is hidden, whatever it is given and answered, two machines that are the same but for that answer an event
+/// alike: refusal, notes and calls are the same, and the machines after it are again the same but for that. Where waits are
 /// hidden, the same task or none has to wait too long in both. The function does nothing: its contract is the law.
 pub fn events_dont_depend()
     ensures { EventsDontDepend }
+{}
+
+/// A program tells nothing of what it never asks for. An instruction that may read the run time of a task is a load of 8
+/// bytes at the offset of that field, whatever its base register holds, and one that may read its virtual time a load of 8
+/// bytes at the offset of that one. A program without one that loads what is hidden asks for none of it, whatever it is given
+/// and answered; and one that has none that loads a slice, and gives one at each insert, tells no slice. Two machines that
+/// are the same but for what is hidden, or for slices of tasks that sleep or are held, answer an event alike if no callback
+/// that one of them calls asks for it. A callback that is called and answered, as each of the machine is, asks what runs of
+/// its program ask: if none of them loads a field of a task, or all give a slice at each insert, so it is in the callback's
+/// run. The function does nothing: its contract is the law.
+pub fn asking_decides()
+    ensures loads { LoadsAreTold }
+    ensures hidden { SuchProgramsReadNone }
+    ensures slices { SuchProgramsTellNoSlices }
+    ensures calls { CallsDontDepend }
+    ensures calls_and_slices { CallsTellNoIdleSlices }
+    ensures called_loads { AnsweredCallsLoadNone }
+    ensures called_inserts { AnsweredCallsGive }
 {}
 
 /// Two such machines answer a list of events alike. The function does nothing: its contract is the law.
@@ -68,7 +81,7 @@ pub fn reached_states_go_alike()
 /// again after it; and after a list of events. Both show the same: the cause of an ejection, idle CPUs, and the words of
 /// a form that leaves out the number of pushes. And if all times of a machine are later by as much, and no program reads the
 /// clock, an event is refused for the same cause, and leads to the same machine, later; slices have to end exactly, and the
-/// periods of quotas to begin alike. If no program loads a slice, and no insert gives one of 0, two machines that are the
+/// periods of quotas to begin alike. If no program asks for a slice, and no insert gives one of 0, two machines that are the
 /// same but for slices of tasks that sleep or are held answer an event alike too. An insert gives none of 0 where the code
 /// shows that r3 holds a constant other than 0. The function does nothing: its contract is the law.
 pub fn unread_parts_change_nothing()

@@ -31,7 +31,7 @@ pub use copies::copies_of;
 pub use counted::run_counted;
 pub use finding::{Finding, Pair, SORTS, Sort};
 pub use laws::{
-    events_dont_depend, events_leave_no_notes, lists_dont_depend, loads_are_told, nobody_is_late,
+    asking_decides, events_dont_depend, events_leave_no_notes, lists_dont_depend, nobody_is_late,
     nobody_waits_by_vtime, reached_states_go_alike, same_machines_show_the_same,
     unread_parts_change_nothing, words_dont_depend,
 };

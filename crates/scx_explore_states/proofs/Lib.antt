@@ -1,3 +1,5 @@
+pub mod Queries
+pub mod Pointers
 mod Eight
 mod Placed
 mod Putting

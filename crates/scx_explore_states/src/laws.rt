@@ -1,3 +1,4 @@
+ghost use Rattle.scx_explore_states.specs.Asking.{RunsPointToTheirTask};
 ghost use Rattle.scx_explore_states.specs.Laws.{NumbersTell};
 ghost use Rattle.scx_explore_states.specs.Telling.{WordsTell};
 
@@ -12,4 +13,10 @@ pub fn half_words_tell()
 /// maps, where each task has its own place. The function does nothing: its contract is the law.
 pub fn words_tell()
     ensures { WordsTell }
+{}
+
+/// A run of a program that asks for no task, and is given one at most, loads and stores the fields of no other one, as long as
+/// what is answered fits. The function does nothing: its contract is the law.
+pub fn runs_point_to_their_task()
+    ensures { RunsPointToTheirTask }
 {}

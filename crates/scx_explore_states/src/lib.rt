@@ -15,7 +15,7 @@ mod words;
 mod written;
 
 pub use form::{Form, MOST_TASKS};
-pub use laws::{half_words_tell, words_tell};
+pub use laws::{half_words_tell, runs_point_to_their_task, words_tell};
 pub use map_words::MapWords;
 pub use queue_numbers::QueueNumbers;
 pub use rows::MOST_CPUS;

@@ -1,5 +1,5 @@
--- What a program asks, by its code: what holds of each query that an instruction may make holds of all that it asks, and
--- what each such query keeps a run keeps.
+-- What a program asks, by its code and its registers: what holds of each query that an instruction may make holds of all
+-- that it asks, and what each such query keeps a run keeps.
 use Rattle.std.proofs.Common.{◌≡◌, ℕ, zero, suc, ◌&&◌, ℤ, List, Bool, true, false, if◌then◌else◌, Option, Some, None, nat_eq, refl}
 use Rattle.scx_isa_semantics.specs.declared.instructions.Insn.{Insn}
 use Rattle.scx_isa_semantics.specs.declared.instructions.Insn.TheVariants as insn
@@ -24,7 +24,7 @@ use Rattle.scx_isa_semantics.specs.HostTables.{field_at, helper_at, parameters, 
 use Rattle.scx_isa_semantics.specs.Locations.{Location, Nowhere, OnStack, InElement, InTask, on_stack, in_element, in_task, address}
 use Rattle.scx_isa_semantics.specs.Code.{Code, at}
 use Rattle.scx_isa_semantics.specs.Machine.{Machine}
-use Rattle.scx_isa_semantics.specs.Calls.{takes_all, map_at_hand, key, nothing_given, asks_here, map_effect, looked_up_in, looked_up, call_effect, call_helper}
+use Rattle.scx_isa_semantics.specs.Calls.{takes_all, arguments, map_at_hand, key, nothing_given, asks_here, map_effect, looked_up_in, looked_up, call_effect, call_helper}
 use Rattle.scx_isa_semantics.specs.Directories as directories
 use Rattle.scx_isa_semantics.specs.Directories.{Directory}
 use Rattle.scx_isa_semantics.specs.Effects.{Query, Call, Load, Store, Effect, set_register, set_register_by_answer, set_stack, branch}
@@ -52,7 +52,18 @@ module _ (P : Query → Type 0) (stores : (t : TaskId) (f : Field) (n : ℕ) →
   IsShown (InTask t f) = P (Load t f)
   IsShown l = Unit {0}
 
-  -- it holds of each query that an instruction may make, but for stores
+  -- it holds of each query that an instruction may make in that state, but for stores
+  abbrev pub MayAskIn : Machine → Callback → Insn → Type 0
+  MayAskIn m c (insn.Load a d r offset) = (t : TaskId) (f : Field) → m.registers (number r) ≡ value.Pointer (pointer.Task t) → field_at (size_bytes (access_size a)) (at_distance 0 offset) ≡ Some f → P (Load t f)
+  MayAskIn m c (insn.Call k) = (f : Helper) → helper_at k ≡ Some f → is_allowed f c ≡ true → P (Call f (arguments m f)) × P (Call SmpProcessorId nothing_given)
+  MayAskIn m c i = Unit {0}
+
+  -- the same of what begins at a slot
+  abbrev pub MayAskThere : Machine → Callback → Option Insn → Type 0
+  MayAskThere m c None = Unit {0}
+  MayAskThere m c (Some i) = MayAskIn m c i
+
+  -- it holds of each query that an instruction may make in any state, but for stores
   abbrev pub MayAsk : Callback → Insn → Type 0
   MayAsk c (insn.Load a d b offset) = (t : TaskId) (f : Field) → field_at (size_bytes (access_size a)) (at_distance 0 offset) ≡ Some f → P (Load t f)
   MayAsk c (insn.Call k) = ((f : Helper) (v : List Value) → helper_at k ≡ Some f → is_allowed f c ≡ true → P (Call f v)) × ((f : Helper) → helper_at k ≡ Some f → is_allowed f c ≡ true → P (Call SmpProcessorId nothing_given))
@@ -62,6 +73,13 @@ module _ (P : Query → Type 0) (stores : (t : TaskId) (f : Field) (n : ℕ) →
   abbrev pub MayAskAt : Callback → Option Insn → Type 0
   MayAskAt c None = Unit {0}
   MayAskAt c (Some i) = MayAsk c i
+
+  -- what holds in any state holds in that one
+  asks_there : (m : Machine) (c : Callback) (o : Option Insn) → MayAskAt c o → MayAskThere m c o
+  asks_there m c None e = tt
+  asks_there m c (Some (insn.Load a d r offset)) e = λ t f is there. e t f there
+  asks_there m c (Some (insn.Call k)) e = λ f is free. (e.0 f (arguments m f) is free, e.1 f is free)
+  asks_there m c (Some i) e = tt
 
   of_two : (b : Bool) (x y : Effect) → AsksOpen x → AsksOpen y → AsksOpen (if b then x else y)
   of_two true x y p q = p
@@ -92,11 +110,11 @@ module _ (P : Query → Type 0) (stores : (t : TaskId) (f : Field) (n : ℕ) →
   shown_in_task t None e = tt
   shown_in_task t (Some f) e = e f refl
 
-  -- where it holds of loads of a field, no address with its offset is of another one
-  shown_at : (maps : Maps) (v : Value) (offset : ℤ) (n : ℕ) → ((t : TaskId) (f : Field) → field_at n (at_distance 0 offset) ≡ Some f → P (Load t f)) → IsShown (address maps v offset n)
+  -- where it holds of loads of a field of the task that a value points to, no address of it is of another one
+  shown_at : (maps : Maps) (v : Value) (offset : ℤ) (n : ℕ) → ((t : TaskId) (f : Field) → v ≡ value.Pointer (pointer.Task t) → field_at n (at_distance 0 offset) ≡ Some f → P (Load t f)) → IsShown (address maps v offset n)
   shown_at maps (value.Pointer (pointer.Stack at)) offset n e = shown_on_stack _
   shown_at maps (value.Pointer (pointer.Element m i at)) offset n e = shown_in_element m i _
-  shown_at maps (value.Pointer (pointer.Task t)) offset n e = shown_in_task t _ (e t)
+  shown_at maps (value.Pointer (pointer.Task t)) offset n e = shown_in_task t _ (λ f there. e t f refl there)
   shown_at maps (value.Pointer (pointer.Map m)) offset n e = tt
   shown_at maps (value.Number a) offset n e = tt
   shown_at maps value.Unset offset n e = tt
@@ -145,21 +163,21 @@ module _ (P : Query → Type 0) (stores : (t : TaskId) (f : Field) (n : ℕ) →
   of_look_up m (value.Pointer (pointer.Map k)) None here = tt
   of_look_up m v o here = tt
 
-  of_helper : (m : Machine) (f : Helper) → ((v : List Value) → P (Call f v)) → P (Call SmpProcessorId nothing_given) → AsksOpen (call_effect m f)
+  of_helper : (m : Machine) (f : Helper) → P (Call f (arguments m f)) → P (Call SmpProcessorId nothing_given) → AsksOpen (call_effect m f)
   of_helper m MapLookupElem e here = of_look_up m (m.registers 1) (key m (m.registers 2)) here
   of_helper m (OnMap g) e here = of_map m (OnMap g) here
-  of_helper m f e here = e _
+  of_helper m f e here = e
 
-  of_call : (c : Callback) (m : Machine) (o : Option Helper) → ((f : Helper) (v : List Value) → o ≡ Some f → is_allowed f c ≡ true → P (Call f v)) → ((f : Helper) → o ≡ Some f → is_allowed f c ≡ true → P (Call SmpProcessorId nothing_given)) → AsksOpen (call_helper c m o)
-  of_call c m None e here = tt
-  of_call c m (Some f) e here = go (is_allowed f c) (takes_all m (parameters f) 1) refl
+  of_call : (c : Callback) (m : Machine) (o : Option Helper) → ((f : Helper) → o ≡ Some f → is_allowed f c ≡ true → P (Call f (arguments m f)) × P (Call SmpProcessorId nothing_given)) → AsksOpen (call_helper c m o)
+  of_call c m None e = tt
+  of_call c m (Some f) e = go (is_allowed f c) (takes_all m (parameters f) 1) refl
     where
       go : (b d : Bool) → is_allowed f c ≡ b → AsksOpen (if b && d then call_effect m f else effect.Stuck)
-      go true true free = of_helper m f (λ v. e f v refl free) (here f refl free)
+      go true true free = of_helper m f (e f refl free).0 (e f refl free).1
       go true false free = tt
       go false d free = tt
 
-  of_instruction : (c : Callback) (i : Insn) (m : Machine) → MayAsk c i → AsksOpen (act c i m)
+  of_instruction : (c : Callback) (i : Insn) (m : Machine) → MayAskIn m c i → AsksOpen (act c i m)
   of_instruction c (insn.Binary w o d x) m e = of_register m (number d) (binary m w o (m.registers (number d)) x)
   of_instruction c (insn.Negate w d) m e = of_register m (number d) (on_number (negative w) (m.registers (number d)))
   of_instruction c (insn.SignExtend x d r) m e = of_register m (number d) (on_number (sign_extension x) (m.registers (number r)))
@@ -171,7 +189,7 @@ module _ (P : Query → Type 0) (stores : (t : TaskId) (f : Field) (n : ℕ) →
   of_instruction c (insn.JumpIf w k r x offset) m e = of_branch m (comparison_answer m w k (m.registers (number r)) x)
   of_instruction c (insn.Goto offset) m e = tt
   of_instruction c (insn.GotoLong offset) m e = tt
-  of_instruction c (insn.Call k) m e = of_call c m (helper_at k) e.0 e.1
+  of_instruction c (insn.Call k) m e = of_call c m (helper_at k) e
   of_instruction c insn.Exit m e = of_two (answers c) _ _ (of_end (m.registers 0)) tt
 
   of_goes : (o : Option ℕ) (m : Machine) → StepsOpen (goes o m)
@@ -185,13 +203,17 @@ module _ (P : Query → Type 0) (stores : (t : TaskId) (f : Field) (n : ℕ) →
   of_effect s i (effect.Ask q go) o = o
   of_effect s i (effect.Ended n) o = tt
 
-  -- it holds of what a step asks
-  pub of_step : (c : Callback) (code : Code) → ((slot : ℕ) → MayAskAt c (at code slot)) → (s : ℕ) (m : Machine) → StepsOpen (step c code s m)
-  of_step c code may s m = go (at code s) (may s)
+  -- it holds of what a step asks in that state
+  pub of_step_in : (c : Callback) (code : Code) (s : ℕ) (m : Machine) → MayAskThere m c (at code s) → StepsOpen (step c code s m)
+  of_step_in c code s m may = go (at code s) may
     where
-      go : (o : Option Insn) → MayAskAt c o → StepsOpen (outcome_of c s o m)
+      go : (o : Option Insn) → MayAskThere m c o → StepsOpen (outcome_of c s o m)
       go None e = tt
       go (Some i) e = of_effect s i (act c i m) (of_instruction c i m e)
+
+  -- and of what one asks in any state
+  pub of_step : (c : Callback) (code : Code) → ((slot : ℕ) → MayAskAt c (at code slot)) → (s : ℕ) (m : Machine) → StepsOpen (step c code s m)
+  of_step c code may s m = of_step_in c code s m (asks_there m c (at code s) (may s))
 
   -- ---- what a run keeps
 

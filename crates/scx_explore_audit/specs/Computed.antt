@@ -1,0 +1,38 @@
+-- The forms that a search computes: what they leave out by calls is known, and what they leave out
+-- by loads and inserts is presumed of runs.
+use Rattle.std.specs.Prelude.{◌≡◌, true, false, not, Option, Some, None}
+use Rattle.scx_isa_semantics.specs.declared.callbacks.Callback.{Callback}
+use Rattle.scx_vm.specs.Programs.{VerifiedProgram}
+use Rattle.scx_sched_policy.specs.Policy.{PolicyState, program_of}
+use Rattle.scx_explore_states.specs.declared.form.Form.{Form}
+use Rattle.scx_explore_findings.specs.Hidden.{Hidden}
+use Rattle.scx_explore_findings.specs.HiddenMachines.{AreUnread}
+use Rattle.scx_explore_findings.specs.IdleSlices.{TellNoSlices}
+use Rattle.scx_explore_findings.specs.WholeForms.{IsWhole}
+use Rattle.scx_explore_bounds.specs.declared.uses.Uses.{Uses}
+use Rattle.scx_explore_bounds.specs.Forms.{tells_idle_slices, form_of}
+use Rattle.scx_explore_bounds.specs.Told.{DoesNoMore}
+
+-- the program does no more than that, if there is one
+abbrev pub IfNoMore : Uses → Option VerifiedProgram → Type 0
+IfNoMore u None = Unit {0}
+IfNoMore u (Some q) = DoesNoMore u q.context q.code
+
+-- nor does any program of the policy
+abbrev pub DoNoMore : Uses → PolicyState → Type 0
+DoNoMore u p = (b : Callback) → IfNoMore u (program_of p b)
+
+-- what the form leaves out of the record of each task
+abbrev pub left_out_by : Form → Hidden
+left_out_by f = record { run_ns = not f.run_ns; vtime = not f.vtime; waits = false }
+
+-- The form that a search computes for milliseconds is whole, if slices end exactly, and no program
+-- asks for what it leaves out of records, or tells a slice where it leaves slices out.
+abbrev pub ComputedFormsAreWhole : Type 0
+ComputedFormsAreWhole =
+    (p : PolicyState) (u : Uses)
+    → DoNoMore u p
+    → p.tick_ms ≡ 0
+    → AreUnread (left_out_by (form_of u true)) p
+    → (tells_idle_slices u ≡ false → TellNoSlices p)
+    → IsWhole p (form_of u true)

@@ -1,0 +1,81 @@
+-- Laws: what a listing shows of each run of its program.
+use Rattle.std.specs.Prelude.{◌≡◌, ℕ, true, false, List, Option, Some, None}
+use Rattle.std.specs.List.{AllByRecursion}
+use Rattle.scx_isa_semantics.specs.declared.host_tables.Field.{Field}
+use Rattle.scx_isa_semantics.specs.declared.host_tables.Field.TheVariants as field
+use Rattle.scx_isa_semantics.specs.declared.host_tables.Helper.{Helper}
+use Rattle.scx_isa_semantics.specs.declared.host_tables.Helper.TheVariants as helper
+use Rattle.scx_isa_semantics.specs.declared.rules.Rules.{Rules}
+use Rattle.scx_isa_semantics.specs.Callbacks as programs
+use Rattle.scx_isa_semantics.specs.Callbacks.{callbacks}
+use Rattle.scx_isa_semantics.specs.Code.{Code, at}
+use Rattle.scx_isa.specs.Spelling.{IsProgram}
+use Rattle.scx_maps.specs.declared.shape.Shape.{Shape}
+use Rattle.scx_vm.specs.declared.context.Context.{Context}
+use Rattle.scx_vm.specs.Programs.{context, by_rules}
+use Rattle.scx_load_policies.specs.Policies.{Programs}
+use Rattle.scx_verify.specs.Typing.{IsTyped}
+use Rattle.scx_verify_explain.specs.declared.listing.Listing.{Listing}
+use Rattle.scx_verify_explain.specs.Listings.{IsListing}
+use Rattle.scx_explore_states.specs.Asking.{LoadsNo, GivesOne, AsksOnly, is_early}
+use Rattle.scx_explore_bounds.specs.declared.uses.Use.TheVariants as such
+use Rattle.scx_explore_bounds.specs.declared.uses.Uses.{Uses}
+use Rattle.scx_explore_bounds.specs.Uses.{is_call, has}
+use Rattle.scx_explore_bounds.specs.Forms.{no_uses, DoAll}
+
+-- if a listing of a program that passes has no load of a field of a task, no run loads it
+abbrev pub ListingsTellLoads : Type 0
+ListingsTellLoads =
+    (c : Context) (code : Code) (l : Listing) (f : Field)
+    → IsProgram code → IsTyped c code → IsListing c code l → has l (such.Load f) ≡ false
+    → AsksOnly (LoadsNo f) c code
+
+-- if it has no insert whose slice may be 0, each insert of a run gives a slice
+abbrev pub ListingsTellInserts : Type 0
+ListingsTellInserts =
+    (c : Context) (code : Code) (l : Listing)
+    → IsProgram code → IsTyped c code → IsListing c code l → has l such.EmptySlice ≡ false
+    → AsksOnly GivesOne c code
+
+-- no instruction of the program calls that helper
+abbrev pub CallsNone : Helper → Code → Type 0
+CallsNone h code = (slot : ℕ) → is_call h (at code slot) ≡ false
+
+-- and if it has no call of a helper, no instruction is one
+abbrev pub ListingsTellCalls : Type 0
+ListingsTellCalls =
+    (c : Context) (code : Code) (l : Listing) (h : Helper)
+    → IsListing c code l → has l (such.Call h) ≡ false → CallsNone h code
+
+-- ---- uses
+
+-- A program does nothing else than that: it calls no other helper, and no run of it loads another
+-- field, or inserts with a slice of 0, as long as arguments, maps and answers fit.
+pub record DoesNoMore (u : Uses) (c : Context) (code : Code) : Type 0 where
+  pub clock : u.clock ≡ false → CallsNone helper.KtimeGetNs code
+  pub random : u.random ≡ false → CallsNone helper.PrandomU32 code
+  pub task_by_pid : u.task_by_pid ≡ false → CallsNone helper.TaskByPid code
+  pub vtime_inserts : u.vtime_inserts ≡ false → CallsNone helper.DsqInsertVtime code
+  pub pid : u.pid ≡ false → AsksOnly (LoadsNo field.Pid) c code
+  pub weight : u.weight ≡ false → AsksOnly (LoadsNo field.Weight) c code
+  pub vtime : u.vtime ≡ false → AsksOnly (LoadsNo field.DsqVtime) c code
+  pub run_ns : u.run_ns ≡ false → AsksOnly (LoadsNo field.RunNs) c code
+  pub slice : u.slice ≡ false → AsksOnly (LoadsNo field.Slice) c code
+  pub early_slice :
+      u.early_slice ≡ false
+      → is_early c.callback true ≡ true
+      → AsksOnly (LoadsNo field.Slice) c code
+  pub empty_slice : u.empty_slice ≡ false → AsksOnly GivesOne c code
+
+-- so it is with a program that passes in that context, if there is one
+abbrev pub IfDoesNoMore : Uses → Context → Option Code → Type 0
+IfDoesNoMore u c None = Unit {0}
+IfDoesNoMore u c (Some code) = IsProgram code → IsTyped c code → DoesNoMore u c code
+
+-- what the programs of a policy do tells what none of them does in any run
+abbrev pub UsesTellRuns : Type 0
+UsesTellRuns =
+    (r : Rules) (shapes : List Shape) (p : Programs) (u : Uses)
+    → DoAll r shapes p callbacks no_uses u
+    → AllByRecursion (λ b. IfDoesNoMore u (by_rules r (context b shapes)) (programs.at p b))
+    callbacks
