@@ -7,7 +7,7 @@ use Rattle.scx_vm.specs.declared.arguments.Answer.{Answer}
 use Rattle.scx_vm.specs.declared.arguments.Answer.TheVariants.{Num}
 use Rattle.scx_sched_world.specs.declared.eject.Cause.TheVariants as reason
 use Rattle.scx_sched_world.specs.declared.faults.Fault.{Fault}
-use Rattle.scx_sched_world.specs.declared.faults.Fault.TheVariants.{Stuck, NoSuchQueue, CannotInsert, NoSuchCpu, UnknownFlag, CannotCreate, BuiltinVtime, Mixed, IdleUntracked, NotAllowed}
+use Rattle.scx_sched_world.specs.declared.faults.Fault.TheVariants.{UnknownFlag}
 use Rattle.scx_sched_world.specs.declared.timers.Alarm.{Alarm}
 use Rattle.scx_sched_world.specs.World.{WorldState, is_this, here}
 use Rattle.scx_sched_world.specs.Helpers.{given_number, invalid_if, unless_fault, fault_or, timer_fault, delay_ms, with_timer, alarm_in, alarm_at, cancelled_answer}
@@ -31,15 +31,7 @@ timer_judged w t = go (nat_lt t (length w.timers)) refl
 timer_from : (w : WorldState) (t : ℕ) (o : Option Fault) → JudgesTimer w t o → timer_fault w t ≡ o
 timer_from w t None j = let l : nat_lt t (length w.timers) ≡ true = grind (arith, nat_tests, j) in ap (λ b. missed_as b) l
 timer_from w t (Some UnknownFlag) j = let l : nat_lt t (length w.timers) ≡ false = grind (arith, nat_tests, j) in ap (λ b. missed_as b) l
-timer_from w t (Some NoSuchQueue) j = absurd j
-timer_from w t (Some NoSuchCpu) j = absurd j
-timer_from w t (Some CannotInsert) j = absurd j
-timer_from w t (Some CannotCreate) j = absurd j
-timer_from w t (Some BuiltinVtime) j = absurd j
-timer_from w t (Some Mixed) j = absurd j
-timer_from w t (Some Stuck) j = absurd j
-timer_from w t (Some NotAllowed) j = absurd j
-timer_from w t (Some IdleUntracked) j = absurd j
+timer_from w t (Some f) j = absurd j
 
 -- ---- start
 

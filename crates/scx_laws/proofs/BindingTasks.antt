@@ -13,7 +13,7 @@ use Rattle.scx_sched_world.specs.Tasks.{seen_from, next_for}
 use Rattle.scx_sched.proofs.Fronts.{Equal, front_same}
 use Rattle.scx_sched.proofs.Seen.{entry_seen}
 use Rattle.scx_laws.specs.BoundTasks.{AreBound, IsAllowed, IsUnbound, IsInMask, IsFirstHome, LowestHome, NoHome, HasOneCpu, IsBoundToOne, IsOnlyCpu, AreSeenFrom, IsNextFor}
-use Rattle.scx_laws.proofs.Differing.{both_true, and_true, false_from, not_so}
+use Rattle.scx_laws.proofs.Differing.{none_if_never, both_true, and_true, false_from, not_so}
 
 -- ---- the lowest number for which a test holds
 
@@ -58,11 +58,7 @@ lowest_from n p c h = go (lowest_below n p) refl
 
 -- or none is
 pub none_from : (n : ℕ) (p : ℕ → Bool) → ((d : ℕ) → d < n → p d ≡ false) → lowest_below n p ≡ None
-none_from n p all = go (lowest_below n p) refl
-  where
-    go : (o : Option ℕ) → lowest_below n p ≡ o → lowest_below n p ≡ None
-    go (Some d) x = let h = is_lowest n p d x in absurd (not_so (p d) (all d h.within) h.passes)
-    go None x = x
+none_from n p all = none_if_never (lowest_below n p) (λ d x. let h = is_lowest n p d x in not_so (p d) (all d h.within) h.passes)
 
 -- ---- where a task may run
 

@@ -1,5 +1,5 @@
 -- A policy hears who left its custody as it is computed, and in no other way.
-use Rattle.std.proofs.Common.{◌≡◌, ℕ, ◌<◌, ◌≤◌, Bool, true, false, ◌||◌, ◌&&◌, ◌==◌, nat_lt, ◌⊎◌, inl, inr, if◌then◌else◌, List, [], ◌∷◌, Option, Some, None, is_some, unwrap_or, refl, sym, ◌∙◌, ap, arith}
+use Rattle.std.proofs.Common.{◌≡◌, ℕ, Bool, true, false, ◌&&◌, ◌==◌, nat_lt, ◌⊎◌, inl, inr, if◌then◌else◌, List, [], ◌∷◌, Option, Some, None, is_some, refl, sym, ◌∙◌, ap, arith}
 use Rattle.std.proofs.lemmas.Bool.Decides.{nat_tests}
 use Rattle.std.proofs.lemmas.Bool.{eq-eqb}
 use Rattle.scx_dsq.specs.Queues.{queue_of}
@@ -16,29 +16,9 @@ use Rattle.scx_sched_machine.specs.Callbacks.{task_and_number}
 use Rattle.scx_sched_machine.specs.Custody.{is_custody, is_in_custody, tells_dequeued, tells_dequeued_if, leaver, tells_of, tells_each, moved_as, hears_dequeue, tells_left}
 use Rattle.scx_sched_machine.specs.Events.{leaves_queue}
 use Rattle.scx_laws.specs.Custody.{IsInCustody, InItsQueue, IsHeld, gone_out, LeavesQueue, LeavesCustody, LeavesOther, HasLeft, WasMoved, WasReleased, TellsOf, OneLeft, NoneLeft, TellsEach, NoNotes, OneNote, KeepsMoved, IsKept, IsForgotten, TellsLeft, LeftByPlain, HasNoDequeue, TellsAll}
-use Rattle.scx_laws.proofs.Differing.{and_true, and_false, false_and, not_so, false_from, calls_if_there, only_calls_if_there}
+use Rattle.scx_laws.proofs.Differing.{below, past, some_same, and_true, and_false, false_and, not_so, false_from, true_either, or_second, or_first, none_if_never, calls_if_there, only_calls_if_there}
 
 -- ---- custody
-
-either : (a b : Bool) → (a || b) ≡ true → (a ≡ true) ⊎ (b ≡ true)
-either true b e = inl refl
-either false b e = inr e
-
-second : (a b : Bool) → b ≡ true → (a || b) ≡ true
-second true b e = refl
-second false b e = e
-
-first : (a b : Bool) → a ≡ true → (a || b) ≡ true
-first a b e = rw e refl
-
-below : (k n : ℕ) → k < n → nat_lt k n ≡ true
-below k n l = grind (arith, nat_tests, l)
-
-past : (k n : ℕ) → n ≤ k → nat_lt k n ≡ false
-past k n l = grind (arith, nat_tests, l)
-
-some_same : (a b : ℕ) → Some a ≡ Some b → a ≡ b
-some_same a b e = ap (λ x. unwrap_or x a) e
 
 in_custody_is : (w : WorldState) (t : ℕ) → is_in_custody w t ≡ true → IsInCustody w t
 in_custody_is w t e = go (queue_of w.queues t) refl e
@@ -49,11 +29,11 @@ in_custody_is w t e = go (queue_of w.queues t) refl e
 
     go : (o : Option ℕ) → queue_of w.queues t ≡ o → is_custody o ≡ true → IsInCustody w t
     go None k x = absurd (cc)
-    go (Some q) k x = at q k (either (nat_lt q policy_end) (q == held_queue) x)
+    go (Some q) k x = at q k (true_either (nat_lt q policy_end) (q == held_queue) x)
 
 in_custody_of : (w : WorldState) (t : ℕ) → IsInCustody w t → is_in_custody w t ≡ true
-in_custody_of w t (InItsQueue q k l) = ap (λ o. is_custody o) k ∙ first (nat_lt q policy_end) (q == held_queue) (below q policy_end l)
-in_custody_of w t (IsHeld k) = ap (λ o. is_custody o) k ∙ second (nat_lt held_queue policy_end) (held_queue == held_queue) (eq-eqb held_queue held_queue refl)
+in_custody_of w t (InItsQueue q k l) = ap (λ o. is_custody o) k ∙ or_first (nat_lt q policy_end) (q == held_queue) (below q policy_end l)
+in_custody_of w t (IsHeld k) = ap (λ o. is_custody o) k ∙ or_second (nat_lt held_queue policy_end) (held_queue == held_queue) (eq-eqb held_queue held_queue refl)
 
 abbrev left_if : State → ℕ → ℕ → ℕ → Bool → Stepped
 left_if s t c flags b = tells_dequeued_if b (gone_out s t) t c flags
@@ -90,11 +70,7 @@ has_left_of x t (WasMoved c k) = ap (λ y. leaver y) k
 has_left_of x t (WasReleased q k l) = ap (λ y. leaver y) k ∙ ap (λ b. if b then None else Some t) (past q policy_end l)
 
 none_left : (x : What) → ((t : ℕ) → ¬ HasLeft x t) → leaver x ≡ None
-none_left x n = go (leaver x) refl
-  where
-    go : (o : Option ℕ) → leaver x ≡ o → leaver x ≡ None
-    go None e = e
-    go (Some t) e = absurd (n t (has_left_is x t e))
+none_left x n = none_if_never (leaver x) (λ t e. n t (has_left_is x t e))
 
 tells_of_one : (x : What) (s : State) (c : ℕ) → TellsOf x s c (tells_of (leaver x) s c)
 unfolding tells_dequeued

@@ -1,5 +1,5 @@
 -- Where the rules differ, what is computed is as the cases allow, and nothing else is.
-use Rattle.std.proofs.Common.{◌≡◌, ℕ, ◌+◌, ◌%◌, ◌<◌, Bool, true, false, not, ◌==◌, ◌&&◌, ◌||◌, ◌⊎◌, inl, inr, if◌then◌else◌, [], ◌++◌, Option, Some, None, is_some, slice_index_or, unwrap_or, option_map, refl, sym, ◌∙◌, ap, arith}
+use Rattle.std.proofs.Common.{◌≡◌, ℕ, ◌+◌, ◌%◌, ◌<◌, ◌≤◌, nat_lt, Bool, true, false, not, ◌==◌, ◌&&◌, ◌||◌, ◌⊎◌, inl, inr, if◌then◌else◌, [], ◌++◌, Option, Some, None, is_some, slice_index_or, unwrap_or, option_map, refl, sym, ◌∙◌, ap, arith}
 use Rattle.std.proofs.lemmas.Bool.{cases_eq, eq-eqb, ne_eqb}
 use Rattle.std.proofs.lemmas.Bool.Decides.{nat_tests}
 use Rattle.std.proofs.lemmas.List.{append-nil}
@@ -39,6 +39,17 @@ and_false false b y = refl
 pub false_and : (a b : Bool) → a ≡ false → (a && b) ≡ false
 false_and a b x = rw x refl
 
+pub true_either : (a b : Bool) → (a || b) ≡ true → (a ≡ true) ⊎ (b ≡ true)
+true_either true b e = inl refl
+true_either false b e = inr e
+
+pub or_second : (a b : Bool) → b ≡ true → (a || b) ≡ true
+or_second true b e = refl
+or_second false b e = e
+
+pub or_first : (a b : Bool) → a ≡ true → (a || b) ≡ true
+or_first a b e = rw e refl
+
 pub false_from : (b : Bool) → (b ≡ true → ⊥) → b ≡ false
 false_from true f = absurd (f refl)
 false_from false f = refl
@@ -46,6 +57,12 @@ false_from false f = refl
 pub not_so : (b : Bool) → b ≡ false → b ≡ true → ⊥
 not_so true x y = absurd (cc)
 not_so false x y = absurd (cc)
+
+pub below : (k n : ℕ) → k < n → nat_lt k n ≡ true
+below k n l = grind (arith, nat_tests, l)
+
+pub past : (k n : ℕ) → n ≤ k → nat_lt k n ≡ false
+past k n l = grind (arith, nat_tests, l)
 
 is_zero : (n : ℕ) → (n == 0) ≡ true → n ≡ 0
 is_zero n e = grind (arith, nat_tests, e)
@@ -74,10 +91,17 @@ then_stays_in r v =
 pub then_stays : (r : Stepped) → one_after_other r (stays r.state) ≡ r
 then_stays r = then_stays_in r r.state
 
--- ---- in which queue a task waits
+-- ---- what may be found
 
-some_same : (a b : ℕ) → Some a ≡ Some b → a ≡ b
+-- where no number may be found, none is
+pub none_if_never : (o : Option ℕ) → ((k : ℕ) → o ≡ Some k → ⊥) → o ≡ None
+none_if_never None n = refl
+none_if_never (Some k) n = absurd (n k refl)
+
+pub some_same : (a b : ℕ) → Some a ≡ Some b → a ≡ b
 some_same a b e = ap (λ x. unwrap_or x a) e
+
+-- ---- in which queue a task waits
 
 pub in_is : (q : ℕ) (o : Option Entry) → is_in q o ≡ true → option_map (λ p. p.queue) o ≡ Some q
 in_is q None e = absurd (cc)
@@ -146,17 +170,6 @@ only_switches s t v (SwitchesByPlain e k) = k ∙ ap (λ a. switched_as s t a (s
 only_switches s t v (SwitchesExactly z k) = k ∙ exactly_is s t (is_by_linux s) ∙ ap (λ b. switched_as s t (is_by_linux s) b) (sym (eq-eqb s.policy.tick_ms 0 z))
 only_switches s t v (TakesTime e l k) =
     k ∙ ap (λ b. switched_as s t true b) (sym (ne_eqb s.policy.tick_ms 0 (λ z. omega (arith, z, l)))) ∙ ap (λ a. switched_as s t a (s.policy.tick_ms == 0)) (sym e)
-
-true_either : (a b : Bool) → (a || b) ≡ true → (a ≡ true) ⊎ (b ≡ true)
-true_either true b e = inl refl
-true_either false b e = inr e
-
-or_second : (a b : Bool) → b ≡ true → (a || b) ≡ true
-or_second true b e = refl
-or_second false b e = e
-
-or_first : (a b : Bool) → a ≡ true → (a || b) ≡ true
-or_first a b e = rw e refl
 
 tick_time_is : (s : State) → is_tick_time s ≡ true → IsTickTime s
 tick_time_is s e = go (true_either (s.policy.tick_ms == 0) ((s.world.clock + 1) % s.policy.tick_ms == 0) e)

@@ -1,7 +1,6 @@
 -- A policy is ejected, for a fault or another cause, as the rules allow, and in no other way.
-use Rattle.std.proofs.Common.{◌≡◌, ℕ, zero, suc, ◌<◌, ◌≤◌, Bool, true, false, nat_lt, ◌⊎◌, inl, inr, if◌then◌else◌, length, List, [], ◌∷◌, ◌++◌, Option, Some, None, refl, sym, ◌∙◌, ap, arith}
+use Rattle.std.proofs.Common.{◌≡◌, ℕ, zero, suc, ◌<◌, ◌≤◌, Bool, true, false, nat_lt, ◌⊎◌, inl, inr, if◌then◌else◌, length, List, [], ◌∷◌, ◌++◌, Option, Some, None, refl, sym, ◌∙◌, ap}
 use Rattle.std.proofs.lemmas.Bool.{cases_lt}
-use Rattle.std.proofs.lemmas.Bool.Decides.{nat_tests}
 use Rattle.std.proofs.lemmas.List.{append-nil}
 use Rattle.scx_isa_semantics.specs.declared.callbacks.Callback.{Callback}
 use Rattle.scx_isa_semantics.specs.declared.callbacks.Callback.TheVariants as callback
@@ -23,6 +22,7 @@ use Rattle.scx_sched_machine.specs.Ejecting.{moves_over, eject, ejected_for}
 use Rattle.scx_sched_machine.specs.Callbacks.{answer_fault, end_fault, as_cause, or_cause, cause_of}
 use Rattle.scx_laws.specs.Helpers.{Blames, IsFirst, HasOne}
 use Rattle.scx_laws.specs.Ejections.{CauseOf, Of_helper, Is_stuck, Of_answer, Of_nothing, Of_no_answer, GoOver, Begins, Waits, Passes, Ejects, Judges, Stays, Ejected, Ended}
+use Rattle.scx_laws.proofs.Differing.{below, past}
 
 -- ---- causes
 
@@ -41,12 +41,6 @@ blames w x = go w.call.cause refl
 pub only_blames : (w : WorldState) (x : Cause) (v : WorldState) → Blames w x v → v ≡ with_cause w x
 only_blames w x v (IsFirst e k) = k ∙ ap (λ o. blamed_as w x o) (sym e)
 only_blames w x v (HasOne y e k) = k ∙ ap (λ o. record w { call = record w.call { cause = o } }) (e ∙ ap (λ o. first_cause o x) (sym e))
-
-below : (k n : ℕ) → k < n → nat_lt k n ≡ true
-below k n l = grind (arith, nat_tests, l)
-
-past : (k n : ℕ) → n ≤ k → nat_lt k n ≡ false
-past k n l = grind (arith, nat_tests, l)
 
 -- an answer is judged in select_cpu alone
 of_answer : (b : Callback) (e : Ending WorldState) (n : ℕ) → e.outside.call.cause ≡ None → e.answer ≡ Some n → CauseOf b e (as_cause (answer_fault b e.outside n))

@@ -1,5 +1,5 @@
 -- A task comes into a queue as the rules allow, and in no other way; keys compare by sign, and claims end.
-use Rattle.std.proofs.Common.{◌≡◌, ◌≢◌, ℕ, ℤ, pos, negsuc, suc, ◌+◌, ◌-◌, ◌%◌, ◌^◌, ◌<◌, ◌≤◌, Bool, true, false, ◌==◌, ◌&&◌, nat_lt, nat_le, int_lt, ◌⊎◌, inl, inr, if◌then◌else◌, length, Option, Some, None, unwrap_or, refl, sym, ◌∙◌, ap, subst, arith}
+use Rattle.std.proofs.Common.{◌≡◌, ◌≢◌, ℕ, ℤ, pos, negsuc, suc, ◌+◌, ◌-◌, ◌%◌, ◌^◌, ◌<◌, ◌≤◌, Bool, true, false, ◌==◌, ◌&&◌, nat_lt, nat_le, int_lt, ◌⊎◌, inl, inr, if◌then◌else◌, length, Option, Some, None, refl, sym, ◌∙◌, ap, subst, arith}
 use Rattle.std.specs.Int.{w64, cast_signed}
 use Rattle.std.proofs.Math.Facts.{to_z-neg}
 use Rattle.std.proofs.lemmas.Int.{to_z_pos}
@@ -18,7 +18,7 @@ use Rattle.scx_sched_world.specs.Tasks.{with_slice, local_cpu, homed_at, given_s
 use Rattle.scx_laws.specs.Entries.{GetsSlice, IsGiven, HasSome, HasNone, GetsOne, GetsVtime, AsLast, AsFirst, AtTime, HasPlace, IsLast, IsFirst, ByTime, BySign, IsNotLocal, HomesThere, InLocal, InOther, PreemptsThere, HasNoFlag, IntoOther, OfNobody, InItsCycle, TakesSlice, EntersQueue}
 use Rattle.scx_laws.specs.Allowing.{RulesAllowEntries, RulesAllowEntriesOnly, KeysCompareBySign, CyclesEndClaims}
 use Rattle.scx_laws.proofs.Readers.{this_is, this_of}
-use Rattle.scx_laws.proofs.Differing.{and_true, and_false, false_and, false_from, not_so, homes, only_homes}
+use Rattle.scx_laws.proofs.Differing.{none_if_never, some_same, and_true, and_false, false_and, false_from, not_so, homes, only_homes}
 
 -- ---- slices
 
@@ -86,9 +86,6 @@ record IsLocal (w : WorldState) (q c : ℕ) : Type 0 where
 abbrev cpu_as : ℕ → Bool → Option ℕ
 cpu_as q b = if b then Some (q - local_on 0) else None
 
-some_same : (a b : ℕ) → Some a ≡ Some b → a ≡ b
-some_same a b e = ap (λ x. unwrap_or x a) e
-
 local_is : (w : WorldState) (q c : ℕ) → local_cpu w q ≡ Some c → IsLocal w q c
 local_is w q c e = go (nat_le (local_on 0) q) (nat_lt q (local_on (length w.cpus))) refl refl e
   where
@@ -112,11 +109,7 @@ local_none : (w : WorldState) (q : ℕ) → local_cpu w q ≡ None → IsNotLoca
 local_none w q e c l k = let bad : None ≡ Some c = sym e ∙ local_of w q c l k in absurd (cc)
 
 local_no : (w : WorldState) (q : ℕ) → IsNotLocal w q → local_cpu w q ≡ None
-local_no w q n = go (local_cpu w q) refl
-  where
-    go : (o : Option ℕ) → local_cpu w q ≡ o → local_cpu w q ≡ None
-    go None e = e
-    go (Some c) e = let h = local_is w q c e in absurd (n c h.within h.queue)
+local_no w q n = none_if_never (local_cpu w q) (λ c e. let h = local_is w q c e in n c h.within h.queue)
 
 homes_there : (w : WorldState) (t q : ℕ) → HomesThere w t q (homed_at w t (local_cpu w q))
 homes_there w t q = go (local_cpu w q) refl

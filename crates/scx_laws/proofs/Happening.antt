@@ -40,7 +40,7 @@ use Rattle.scx_laws.specs.Allowing.{RulesAllowEvents, RulesAllowEventsOnly}
 use Rattle.scx_laws.specs.BoundTasks.{HasOneCpu}
 use Rattle.scx_laws.proofs.BindingTasks.{allowed_is, allowed_of, outside_is, outside_of, is_home, only_home_of, one_is, one_of}
 use Rattle.scx_laws.proofs.PickingIdle.{is_choice, only_choice, is_default, only_default, only_claims}
-use Rattle.scx_laws.proofs.Differing.{and_true, and_false, false_from, not_so, homes, only_homes, begins_switch, only_begins_switch, tells_waker, only_tells_waker, calls_if_there, only_calls_if_there, hears, only_hears, ends_is, ends_of, tells_sleep, only_tells_sleep, looks_if_idle, only_looks_if_idle}
+use Rattle.scx_laws.proofs.Differing.{below, and_true, and_false, false_from, not_so, homes, only_homes, begins_switch, only_begins_switch, tells_waker, only_tells_waker, calls_if_there, only_calls_if_there, hears, only_hears, ends_is, ends_of, tells_sleep, only_tells_sleep, looks_if_idle, only_looks_if_idle}
 use Rattle.scx_laws.proofs.Departing.{departs, only_departs}
 use Rattle.scx_laws.proofs.Ringing.{fires_every, only_fires_every}
 use Rattle.scx_laws.proofs.Refusing.{good, bad, is_weight}
@@ -63,9 +63,6 @@ only_settles s t c i r (WasInserted x e k) = k ∙ ap (λ (o : Option Insert). i
 
 abbrev target_of : State → ℕ → Option ℕ → ℕ
 target_of s t a = target (acting s callback.SelectCpu) s.world t a
-
-below : (k n : ℕ) → k < n → nat_lt k n ≡ true
-below k n l = grind (arith, nat_tests, l)
 
 -- a processor, or, where the task may not run on it, the lowest one on which it may
 abbrev home_or : WorldState → ℕ → ℕ → Bool → ℕ

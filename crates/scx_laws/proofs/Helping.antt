@@ -37,7 +37,7 @@ use Rattle.scx_sched_world.specs.Helpers.{invalid, with_fault, with_move, are_li
 use Rattle.scx_laws.specs.Helpers.{IsDestination, Own, Global, Local, LocalOn, NamesNoCpu, CanCreate, MayInsert, InSelectCpu, InEnqueue, InDispatch, IsBuiltinVtime, IsMixed, IsMeant, IsNamed, IsAtHand, IsForbidden, MayMove, JudgesAsk, JudgesChoice, AreFlags, OfWake, OfLinux, IsLate, JudgesInsert, JudgesFlags, JudgesAnInsert, InTime, TooLate, Inserts, Keeps, Releases, PassesOver, Moves, First, HasNone, IsChoice, Chooses, OfTask, OfNone, OfNobody, SeemsIdle, IsUnclaimed, ClaimedHere, Tells, TellsIdle, TellsBusy, Kicks, KicksAny, KicksIdle, KicksCycling, LeavesBusy, KicksToPreempt, Finds, Found, Nobody, IsEffect, Done, NamesTask, Wrong, Blames}
 use Rattle.scx_laws.specs.Allowing.{RulesAllowHelpers, RulesAllowHelpersOnly}
 use Rattle.scx_laws.proofs.PickingIdle.{is_choice, only_choice, claims, only_claims}
-use Rattle.scx_laws.proofs.Differing.{and_true, false_and, homes, only_homes}
+use Rattle.scx_laws.proofs.Differing.{and_true, false_and, true_either, homes, only_homes}
 use Rattle.scx_laws.proofs.BindingTasks.{outside_is, outside_of, next_is, only_next}
 use Rattle.scx_laws.proofs.Ejecting.{blames, only_blames}
 use Rattle.scx_laws.proofs.Readers.{this_is, this_of, there_is, is_there_of, some_fault, here_allowed, only_here_so, exit_allowed, only_exit, current_allowed, only_current_so, peek_allowed, only_peek, running_allowed, only_running, home_allowed, only_home, may_allowed, only_may, random_allowed, only_random, pick_allowed, only_pick, ask_judged, ask_from, claim_allowed, only_claim}
@@ -69,14 +69,7 @@ abbrev FaultOf : WorldState → ℕ → Option Fault → Type 0
 FaultOf w q None = IsDestination w q
 FaultOf w q (Some NoSuchQueue) = (¬ IsDestination w q) × (¬ NamesNoCpu w q)
 FaultOf w q (Some NoSuchCpu) = NamesNoCpu w q
-FaultOf w q (Some CannotInsert) = ⊥
-FaultOf w q (Some UnknownFlag) = ⊥
-FaultOf w q (Some CannotCreate) = ⊥
-FaultOf w q (Some Stuck) = ⊥
-FaultOf w q (Some NotAllowed) = ⊥
-FaultOf w q (Some IdleUntracked) = ⊥
-FaultOf w q (Some BuiltinVtime) = ⊥
-FaultOf w q (Some Mixed) = ⊥
+FaultOf w q (Some f) = ⊥
 
 no_destination : (w : WorldState) (q : ℕ) → (q < policy_end → exists w.queues q ≡ true → ⊥) → (q ≡ global → ⊥) → (q ≡ local → ⊥) → ((c : ℕ) → c < length w.cpus → q ≡ local_on c → ⊥) → ¬ IsDestination w q
 no_destination w q own g l on (Own h) = own h.0 h.1
@@ -131,14 +124,7 @@ abbrev RankOf : WorldState → ℕ → Rank → Option Fault → Type 0
 RankOf w q r None = (¬ IsBuiltinVtime q r) × (¬ IsMixed w q r)
 RankOf w q r (Some BuiltinVtime) = IsBuiltinVtime q r
 RankOf w q r (Some Mixed) = (¬ IsBuiltinVtime q r) × IsMixed w q r
-RankOf w q r (Some NoSuchQueue) = ⊥
-RankOf w q r (Some NoSuchCpu) = ⊥
-RankOf w q r (Some CannotInsert) = ⊥
-RankOf w q r (Some UnknownFlag) = ⊥
-RankOf w q r (Some CannotCreate) = ⊥
-RankOf w q r (Some Stuck) = ⊥
-RankOf w q r (Some NotAllowed) = ⊥
-RankOf w q r (Some IdleUntracked) = ⊥
+RankOf w q r (Some f) = ⊥
 
 by_vtime_is : (q : ℕ) (r : Rank) → (is_vtime r && nat_le policy_end q) ≡ true → IsBuiltinVtime q r
 by_vtime_is q Fifo e = absurd (cc)
@@ -216,10 +202,6 @@ linux_flags_is w n lin e = go (both (nat_le (n % 2 ^ 32) 1) ((n / 2 ^ 32 == 0) |
     of : (p h : ℕ) → n % 2 ^ 32 ≤ 1 → p ≤ 1 → h ≤ 1 → n / 2 ^ 32 ≡ p + h * 2 ^ 16 → AreFlags w n
     of p h low x y k = OfLinux (n % 2 ^ 32) p h lin low x y (omega (arith, k, div-add-mod' n (2 ^ 32)))
 
-    either : (a b : Bool) → (a || b) ≡ true → (a ≡ true) ⊎ (b ≡ true)
-    either true b x = inl refl
-    either false b x = inr x
-
     is : (a b : ℕ) → (a == b) ≡ true → a ≡ b
     is a b x = grind (arith, nat_tests, x)
 
@@ -229,14 +211,14 @@ linux_flags_is w n lin e = go (both (nat_le (n % 2 ^ 32) 1) ((n / 2 ^ 32 == 0) |
 
     second : n % 2 ^ 32 ≤ 1 → ((n / 2 ^ 32 == 1) ≡ true) ⊎ (((n / 2 ^ 32 == 2 ^ 16) || (n / 2 ^ 32 == 2 ^ 16 + 1)) ≡ true) → AreFlags w n
     second low (inl x) = of 1 0 low (omega arith) (omega arith) (omega (arith, is (n / 2 ^ 32) 1 x))
-    second low (inr x) = third low (either (n / 2 ^ 32 == 2 ^ 16) (n / 2 ^ 32 == 2 ^ 16 + 1) x)
+    second low (inr x) = third low (true_either (n / 2 ^ 32 == 2 ^ 16) (n / 2 ^ 32 == 2 ^ 16 + 1) x)
 
     first : n % 2 ^ 32 ≤ 1 → ((n / 2 ^ 32 == 0) ≡ true) ⊎ (((n / 2 ^ 32 == 1) || ((n / 2 ^ 32 == 2 ^ 16) || (n / 2 ^ 32 == 2 ^ 16 + 1))) ≡ true) → AreFlags w n
     first low (inl x) = of 0 0 low (omega arith) (omega arith) (omega (arith, is (n / 2 ^ 32) 0 x))
-    first low (inr x) = second low (either (n / 2 ^ 32 == 1) ((n / 2 ^ 32 == 2 ^ 16) || (n / 2 ^ 32 == 2 ^ 16 + 1)) x)
+    first low (inr x) = second low (true_either (n / 2 ^ 32 == 1) ((n / 2 ^ 32 == 2 ^ 16) || (n / 2 ^ 32 == 2 ^ 16 + 1)) x)
 
     go : (nat_le (n % 2 ^ 32) 1 ≡ true) × (((n / 2 ^ 32 == 0) || ((n / 2 ^ 32 == 1) || ((n / 2 ^ 32 == 2 ^ 16) || (n / 2 ^ 32 == 2 ^ 16 + 1)))) ≡ true) → AreFlags w n
-    go h = first (grind (arith, nat_tests, h.0)) (either (n / 2 ^ 32 == 0) ((n / 2 ^ 32 == 1) || ((n / 2 ^ 32 == 2 ^ 16) || (n / 2 ^ 32 == 2 ^ 16 + 1))) h.1)
+    go h = first (grind (arith, nat_tests, h.0)) (true_either (n / 2 ^ 32 == 0) ((n / 2 ^ 32 == 1) || ((n / 2 ^ 32 == 2 ^ 16) || (n / 2 ^ 32 == 2 ^ 16 + 1))) h.1)
 
 linux_flags_of : (n wake p h : ℕ) → wake ≤ 1 → p ≤ 1 → h ≤ 1 → n ≡ wake + p * 2 ^ 32 + h * 2 ^ 48 → are_linux_flags n ≡ true
 linux_flags_of n wake p h a b c k = and_true (nat_le (n % 2 ^ 32) 1) _ low (go (cases_eq p 0) (cases_eq h 0))
@@ -498,9 +480,7 @@ insert_fault_from w t i flags o j = go o j
     go (Some UnknownFlag) j = ap (λ b. fault_as w t i (flags_fault w flags) b) (may_insert_of w t j.0) ∙ ap (λ f. fault_as w t i f true) (unknown_fault w flags j.1)
     go (Some NoSuchQueue) j = at_queue j.0 j.1 NoSuchQueue (no_queue_at w i.queue j.2 j.3 (queue_fault w i.queue) (queue_fault_is w i.queue))
     go (Some NoSuchCpu) j = at_queue j.0 j.1 NoSuchCpu (no_cpu_at w i.queue j.2 (queue_fault w i.queue) (queue_fault_is w i.queue))
-    go (Some CannotCreate) j = absurd j
-    go (Some Stuck) j = absurd j
-    go (Some IdleUntracked) j = absurd j
+    go (Some f) j = absurd j
 
 -- what is inserted
 is_dispatch_of : (b : Callback) → b ≡ callback.Dispatch → is_dispatch b ≡ true
@@ -555,15 +535,7 @@ flags_judged w flags = go (are_known w flags) refl
 flags_from : (w : WorldState) (flags : ℕ) (o : Option Fault) → JudgesFlags w flags o → flags_fault w flags ≡ o
 flags_from w flags None j = known_fault w flags j
 flags_from w flags (Some UnknownFlag) j = unknown_fault w flags j
-flags_from w flags (Some CannotInsert) j = absurd j
-flags_from w flags (Some NoSuchQueue) j = absurd j
-flags_from w flags (Some NoSuchCpu) j = absurd j
-flags_from w flags (Some BuiltinVtime) j = absurd j
-flags_from w flags (Some Mixed) j = absurd j
-flags_from w flags (Some CannotCreate) j = absurd j
-flags_from w flags (Some Stuck) j = absurd j
-flags_from w flags (Some NotAllowed) j = absurd j
-flags_from w flags (Some IdleUntracked) j = absurd j
+flags_from w flags (Some f) j = absurd j
 
 -- an insert, in time or late: its fault, and what it does
 abbrev answered_as : WorldState → Option ℕ → Insert → ℕ → Bool → ℕ
@@ -879,15 +851,7 @@ only_create : (w : WorldState) (a : List Arg) (x : Answer) (v : WorldState) → 
 only_create w a x v (Done n j d e) = let b = can_create_of w (given_number a 0) j in rw b (e ∙ ap Num d.0, d.1 ∙ ap (λ s. with_queues w s) (sym (created_is w (given_number a 0) j)))
 only_create w a x v (NamesTask o j m e k) = absurd m
 only_create w a x v (Wrong CannotCreate j e k) = let b = is_false (can_create w (given_number a 0)) (λ y. j (create_is w (given_number a 0) y)) in rw b (e, only_blames w (reason.Fault CannotCreate) v k)
-only_create w a x v (Wrong CannotInsert j e k) = absurd j
-only_create w a x v (Wrong UnknownFlag j e k) = absurd j
-only_create w a x v (Wrong NoSuchQueue j e k) = absurd j
-only_create w a x v (Wrong NoSuchCpu j e k) = absurd j
-only_create w a x v (Wrong BuiltinVtime j e k) = absurd j
-only_create w a x v (Wrong Mixed j e k) = absurd j
-only_create w a x v (Wrong Stuck j e k) = absurd j
-only_create w a x v (Wrong NotAllowed j e k) = absurd j
-only_create w a x v (Wrong IdleUntracked j e k) = absurd j
+only_create w a x v (Wrong f j e k) = absurd j
 
 only_insert : (w : WorldState) (a : List Arg) (x : Answer) (v : WorldState) → IsEffect w DsqInsert a x v → Is-this w DsqInsert a x v
 only_insert w a x v (Done n j d e) = let h = only_does_insert w (given_task a 0) (insert_of w a) (given_number a 3) n v (DoneInsert j d.0 d.1) in (e ∙ ap Num h.0, h.1)
@@ -920,15 +884,7 @@ only_chooses w n o v j (OfNobody e k z) = (k ∙ ap (λ y. choice_answer w y) (s
 -- the only fault of a choice
 choice_from : (w : WorldState) (t : ℕ) (f : Fault) → JudgesChoice w (Some t) (Some f) → untracked_as w.tracks_idle ≡ Some f
 choice_from w t IdleUntracked j = ap (λ b. untracked_as b) j
-choice_from w t NoSuchQueue j = absurd j
-choice_from w t NoSuchCpu j = absurd j
-choice_from w t CannotInsert j = absurd j
-choice_from w t UnknownFlag j = absurd j
-choice_from w t CannotCreate j = absurd j
-choice_from w t BuiltinVtime j = absurd j
-choice_from w t Mixed j = absurd j
-choice_from w t Stuck j = absurd j
-choice_from w t NotAllowed j = absurd j
+choice_from w t f j = absurd j
 
 only_choice_so : (w : WorldState) (a : List Arg) (x : Answer) (v : WorldState) → IsEffect w SelectCpuDfl a x v → Is-this w SelectCpuDfl a x v
 only_choice_so w a x v (Done n j d e) = let h = only_chooses w n (given_task a 0) v j d in (e ∙ ap Num h.0, h.1)
@@ -984,29 +940,13 @@ only_move w a x v (Done n j d e) =
     rw b (e ∙ ap Num m.0, m.1)
 only_move w a x v (NamesTask o j m e k) = absurd m
 only_move w a x v (Wrong NoSuchQueue j e k) = let b = is_false (can_move w (given_number a 0)) (λ y. j (move_is w (given_number a 0) y)) in rw b (e, only_blames w (reason.Fault NoSuchQueue) v k)
-only_move w a x v (Wrong CannotInsert j e k) = absurd j
-only_move w a x v (Wrong UnknownFlag j e k) = absurd j
-only_move w a x v (Wrong CannotCreate j e k) = absurd j
-only_move w a x v (Wrong Stuck j e k) = absurd j
-only_move w a x v (Wrong NotAllowed j e k) = absurd j
-only_move w a x v (Wrong IdleUntracked j e k) = absurd j
-only_move w a x v (Wrong NoSuchCpu j e k) = absurd j
-only_move w a x v (Wrong BuiltinVtime j e k) = absurd j
-only_move w a x v (Wrong Mixed j e k) = absurd j
+only_move w a x v (Wrong f j e k) = absurd j
 
 only_queued : (w : WorldState) (a : List Arg) (x : Answer) (v : WorldState) → IsEffect w DsqNrQueued a x v → Is-this w DsqNrQueued a x v
 only_queued w a x v (Done n j d e) = let b = is_there_of w (given_number a 0) j in rw b (e ∙ ap Num d.0, d.1)
 only_queued w a x v (NamesTask o j m e k) = absurd m
 only_queued w a x v (Wrong NoSuchQueue j e k) = let b = is_false (is_there w (given_number a 0)) (λ y. j (there_is w (given_number a 0) y)) in rw b (e, only_blames w (reason.Fault NoSuchQueue) v k)
-only_queued w a x v (Wrong CannotInsert j e k) = absurd j
-only_queued w a x v (Wrong UnknownFlag j e k) = absurd j
-only_queued w a x v (Wrong CannotCreate j e k) = absurd j
-only_queued w a x v (Wrong Stuck j e k) = absurd j
-only_queued w a x v (Wrong NotAllowed j e k) = absurd j
-only_queued w a x v (Wrong IdleUntracked j e k) = absurd j
-only_queued w a x v (Wrong NoSuchCpu j e k) = absurd j
-only_queued w a x v (Wrong BuiltinVtime j e k) = absurd j
-only_queued w a x v (Wrong Mixed j e k) = absurd j
+only_queued w a x v (Wrong f j e k) = absurd j
 
 -- flags ask for one kick, which does that
 only_kicks : (w : WorldState) (c n : ℕ) (v : WorldState) → Kicks w c n v → (k : Kick) × (kick_of n ≡ Some k) × (v ≡ kicked_so w c k)
@@ -1036,14 +976,7 @@ only_kick w a x v (Wrong NoSuchCpu j e k) =
     let h = kicks_so w (given_number a 0) (given_number a 1) j.0 in
     let l : nat_lt (given_number a 0) (length w.cpus) ≡ false = grind (arith, nat_tests, j.1) in
     rw (h.asked, l) (e, only_blames w (reason.Fault NoSuchCpu) v k)
-only_kick w a x v (Wrong NoSuchQueue j e k) = absurd j
-only_kick w a x v (Wrong CannotCreate j e k) = absurd j
-only_kick w a x v (Wrong CannotInsert j e k) = absurd j
-only_kick w a x v (Wrong BuiltinVtime j e k) = absurd j
-only_kick w a x v (Wrong Mixed j e k) = absurd j
-only_kick w a x v (Wrong Stuck j e k) = absurd j
-only_kick w a x v (Wrong NotAllowed j e k) = absurd j
-only_kick w a x v (Wrong IdleUntracked j e k) = absurd j
+only_kick w a x v (Wrong f j e k) = absurd j
 
 -- and nothing else is
 pub only_helper : RulesAllowHelpersOnly

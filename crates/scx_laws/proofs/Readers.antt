@@ -14,7 +14,7 @@ use Rattle.scx_vm.specs.declared.arguments.Answer.{Answer}
 use Rattle.scx_vm.specs.declared.arguments.Answer.TheVariants.{Num}
 use Rattle.scx_sched_world.specs.declared.eject.Cause.TheVariants as reason
 use Rattle.scx_sched_world.specs.declared.faults.Fault.{Fault}
-use Rattle.scx_sched_world.specs.declared.faults.Fault.TheVariants.{Stuck, NoSuchQueue, CannotInsert, NoSuchCpu, UnknownFlag, CannotCreate, BuiltinVtime, Mixed, IdleUntracked, NotAllowed}
+use Rattle.scx_sched_world.specs.declared.faults.Fault.TheVariants.{NoSuchQueue, NoSuchCpu, UnknownFlag, IdleUntracked}
 use Rattle.scx_sched_world.specs.Ids.{policy_end}
 use Rattle.scx_sched_world.specs.World.{WorldState, is_this, is_free, is_current, current, here, this_if, may_run, after_claim, with_random}
 use Rattle.scx_sched_world.specs.Helpers.{with_fault, given_number, given_task, is_there, or_fault, unless_fault, fault_or, ask_fault, pick_fault, task_or_null, is_current_one, cpu_of_task, may_run_there, next_random, random_answer, after_random, is_free_in, first_free_in, pick_answer_by, after_pick_by, helper_answer, helper_after}
@@ -22,14 +22,10 @@ use Rattle.scx_laws.specs.Differences.{IsCurrent}
 use Rattle.scx_laws.specs.Helpers.{IsPolicyQueue, JudgesAsk, JudgesPick, TellsCurrent, IsOn, IsOnNone, GivenNone, TellsHome, OfTheTask, OfNoTask, TellsAllowed, MayThere, MayNotThere, NoOneMay, Draws, IsFreeIn, PicksFrom, PicksLowest, PicksNone, ClaimsThis, WasFree, WasTaken, IsEffect, Done, NamesTask, Wrong}
 use Rattle.scx_laws.proofs.BindingTasks.{none_below, is_lowest, lowest_from, none_from, allowed_is, allowed_of, outside_is, outside_of}
 use Rattle.scx_laws.proofs.PickingIdle.{free_is, free_of, past_end, free_within, claims, only_claims}
-use Rattle.scx_laws.proofs.Differing.{both_true, and_true, and_false, false_from, not_so, current_is, only_current, is_here, only_here}
+use Rattle.scx_laws.proofs.Differing.{true_either, both_true, and_true, and_false, false_from, not_so, current_is, only_current, is_here, only_here}
 use Rattle.scx_laws.proofs.Ejecting.{blames, only_blames}
 
 -- ---- tests as facts
-
-true_or : (a b : Bool) → (a || b) ≡ true → (a ≡ true) ⊎ (b ≡ true)
-true_or true b e = inl refl
-true_or false b e = inr e
 
 or_true : (b : Bool) → (b || true) ≡ true
 or_true true = refl
@@ -38,7 +34,7 @@ or_true false = refl
 -- a test that passes for one of the first numbers
 pub some_below : (n : ℕ) (test : ℕ → Bool) → any_below n test ≡ true → (t : ℕ) × (t < n) × (test t ≡ true)
 some_below zero test e = absurd (cc)
-some_below (suc n) test e = go (λ x. some_below n test x) (true_or (any_below n test) (test n) e)
+some_below (suc n) test e = go (λ x. some_below n test x) (true_either (any_below n test) (test n) e)
   where
     go : (any_below n test ≡ true → (t : ℕ) × (t < n) × (test t ≡ true)) → (any_below n test ≡ true) ⊎ (test n ≡ true) → (t : ℕ) × (t < suc n) × (test t ≡ true)
     go f (inl x) = let h = f x in (h.0, omega (arith, h.1), h.2)
@@ -118,15 +114,7 @@ only_current_so w a x v (NamesTask o j m e k) =
 only_current_so w a x v (Wrong NoSuchCpu j e k) =
     let l : nat_lt (given_number a 0) (length w.cpus) ≡ false = grind (arith, nat_tests, j) in
     rw l (e, only_blames w (reason.Fault NoSuchCpu) v k)
-only_current_so w a x v (Wrong NoSuchQueue j e k) = absurd j
-only_current_so w a x v (Wrong CannotInsert j e k) = absurd j
-only_current_so w a x v (Wrong UnknownFlag j e k) = absurd j
-only_current_so w a x v (Wrong CannotCreate j e k) = absurd j
-only_current_so w a x v (Wrong BuiltinVtime j e k) = absurd j
-only_current_so w a x v (Wrong Mixed j e k) = absurd j
-only_current_so w a x v (Wrong Stuck j e k) = absurd j
-only_current_so w a x v (Wrong NotAllowed j e k) = absurd j
-only_current_so w a x v (Wrong IdleUntracked j e k) = absurd j
+only_current_so w a x v (Wrong f j e k) = absurd j
 
 pub peek_allowed : (w : WorldState) (a : List Arg) → Is-effect w DsqPeek a
 peek_allowed w a = go (is_there w q) refl
@@ -144,15 +132,7 @@ only_peek w a x v (NamesTask o j m e k) = rw (is_there_of w (given_number a 0) j
 only_peek w a x v (Wrong NoSuchQueue j e k) =
     let b = false_from (is_there w (given_number a 0)) (λ y. j (there_is w (given_number a 0) y)) in
     rw b (e, only_blames w (reason.Fault NoSuchQueue) v k)
-only_peek w a x v (Wrong NoSuchCpu j e k) = absurd j
-only_peek w a x v (Wrong CannotInsert j e k) = absurd j
-only_peek w a x v (Wrong UnknownFlag j e k) = absurd j
-only_peek w a x v (Wrong CannotCreate j e k) = absurd j
-only_peek w a x v (Wrong BuiltinVtime j e k) = absurd j
-only_peek w a x v (Wrong Mixed j e k) = absurd j
-only_peek w a x v (Wrong Stuck j e k) = absurd j
-only_peek w a x v (Wrong NotAllowed j e k) = absurd j
-only_peek w a x v (Wrong IdleUntracked j e k) = absurd j
+only_peek w a x v (Wrong f j e k) = absurd j
 
 on_is : (w : WorldState) (t c : ℕ) → is_this t (current w c) ≡ true → IsCurrent w c (Some t)
 on_is w t c e = subst (λ o. IsCurrent w c o) (this_is t (current w c) e) (current_is w c)
@@ -238,15 +218,7 @@ only_may w a x v (NamesTask o j m e k) = absurd m
 only_may w a x v (Wrong NoSuchCpu j e k) =
     let l : nat_lt (given_number a 1) (length w.cpus) ≡ false = grind (arith, nat_tests, j) in
     rw l (e, only_blames w (reason.Fault NoSuchCpu) v k)
-only_may w a x v (Wrong NoSuchQueue j e k) = absurd j
-only_may w a x v (Wrong CannotInsert j e k) = absurd j
-only_may w a x v (Wrong UnknownFlag j e k) = absurd j
-only_may w a x v (Wrong CannotCreate j e k) = absurd j
-only_may w a x v (Wrong BuiltinVtime j e k) = absurd j
-only_may w a x v (Wrong Mixed j e k) = absurd j
-only_may w a x v (Wrong Stuck j e k) = absurd j
-only_may w a x v (Wrong NotAllowed j e k) = absurd j
-only_may w a x v (Wrong IdleUntracked j e k) = absurd j
+only_may w a x v (Wrong f j e k) = absurd j
 
 -- ---- random numbers
 
@@ -335,14 +307,7 @@ pick_from : (w : WorldState) (flags : ℕ) (o : Option Fault) → JudgesPick w f
 pick_from w flags None j = let l : nat_le flags 1 ≡ true = grind (arith, nat_tests, j.1) in ap (λ a. first_wrong a (flag_as (nat_le flags 1))) j.0 ∙ ap (λ b. flag_as b) l
 pick_from w flags (Some IdleUntracked) j = ap (λ a. first_wrong a (flag_as (nat_le flags 1))) j
 pick_from w flags (Some UnknownFlag) j = let l : nat_le flags 1 ≡ false = grind (arith, nat_tests, j.1) in ap (λ a. first_wrong a (flag_as (nat_le flags 1))) j.0 ∙ ap (λ b. flag_as b) l
-pick_from w flags (Some NoSuchQueue) j = absurd j
-pick_from w flags (Some NoSuchCpu) j = absurd j
-pick_from w flags (Some CannotInsert) j = absurd j
-pick_from w flags (Some CannotCreate) j = absurd j
-pick_from w flags (Some BuiltinVtime) j = absurd j
-pick_from w flags (Some Mixed) j = absurd j
-pick_from w flags (Some Stuck) j = absurd j
-pick_from w flags (Some NotAllowed) j = absurd j
+pick_from w flags (Some f) j = absurd j
 
 pub pick_allowed : (w : WorldState) (a : List Arg) → Is-effect w PickIdle a
 pick_allowed w a = go (pick_fault w flags) (pick_judged w flags)
@@ -411,14 +376,7 @@ ask_from w c None j = let l : nat_lt c (length w.cpus) ≡ true = grind (arith, 
 ask_from w c (Some IdleUntracked) j = ap (λ a. first_wrong a (cpu_as (nat_lt c (length w.cpus)))) j
 ask_from w c (Some NoSuchCpu) j =
     let l : nat_lt c (length w.cpus) ≡ false = grind (arith, nat_tests, j.1) in ap (λ a. first_wrong a (cpu_as (nat_lt c (length w.cpus)))) j.0 ∙ ap (λ b. cpu_as b) l
-ask_from w c (Some NoSuchQueue) j = absurd j
-ask_from w c (Some UnknownFlag) j = absurd j
-ask_from w c (Some CannotInsert) j = absurd j
-ask_from w c (Some CannotCreate) j = absurd j
-ask_from w c (Some BuiltinVtime) j = absurd j
-ask_from w c (Some Mixed) j = absurd j
-ask_from w c (Some Stuck) j = absurd j
-ask_from w c (Some NotAllowed) j = absurd j
+ask_from w c (Some f) j = absurd j
 
 abbrev answered_so : WorldState → ℕ → Option Fault → Answer
 answered_so w c o = Num (unless_fault o (one_if (is_free w c)))

@@ -1,7 +1,6 @@
 -- An event is refused where the rules refuse it, and nowhere else.
 use Rattle.std.proofs.Common.{◌≡◌, ℕ, ◌<◌, ◌≤◌, Bool, true, false, ◌||◌, nat_lt, ◌⊎◌, inl, inr, if◌then◌else◌, length, Option, Some, None, refl, sym, ap, arith}
 use Rattle.std.proofs.lemmas.Bool.{cases_lt}
-use Rattle.std.proofs.lemmas.Bool.Decides.{nat_tests}
 use Rattle.scx_sched_world.specs.World.{is_runnable}
 use Rattle.scx_sched_machine.specs.declared.events.Event.TheVariants.{Wake, Sleep, Tick, Clock, SetWeight, SetTaskWeight}
 use Rattle.scx_sched_machine.specs.declared.events.Refused.{Refused}
@@ -11,6 +10,7 @@ use Rattle.scx_weights.specs.Refusals.{max_weight, is_outside}
 use Rattle.scx_sched_machine.specs.Events.{refusal}
 use Rattle.scx_laws.specs.Refusals.{RefusesTask, NoTask, Already, IsWeight, RefusesWeight, NoGroup, NoWeight, RefusesTaskWeight, OfNoTask, OfNoWeight}
 use Rattle.scx_laws.specs.Allowing.{RulesRefuseEvents, RulesRefuseEventsOnly}
+use Rattle.scx_laws.proofs.Differing.{below, past}
 
 abbrev or_else : Refused → Option Refused → Refused
 or_else d None = d
@@ -18,12 +18,6 @@ or_else d (Some r) = r
 
 is : (a b : Refused) → Some a ≡ Some b → b ≡ a
 is a b e = sym (ap (λ o. or_else a o) e)
-
-below : (k n : ℕ) → k < n → nat_lt k n ≡ true
-below k n l = grind (arith, nat_tests, l)
-
-past : (k n : ℕ) → n ≤ k → nat_lt k n ≡ false
-past k n l = grind (arith, nat_tests, l)
 
 both : (b : Bool) → b ≡ true → b ≡ false → ⊥
 both true x y = absurd (cc)

@@ -9,7 +9,7 @@ use Rattle.scx_sched_machine.specs.Steps.{State, Stepped, stays, one_after_other
 use Rattle.scx_sched_machine.specs.Cycle.{cycle}
 use Rattle.scx_sched_machine.specs.Rounds.{most_rounds, next_to_look, cut_off_if, look_past, look_from, round, round_then, rounds, with_rounds}
 use Rattle.scx_laws.specs.Rounds.{IsPending, WasKicked, HasWork, IsNext, looking, Preempts, Is_cut, Is_left, LooksForWork, Wakes_up, Runs_on, Runs_out, Rounds, Enough, NoneNext, OneMore, IsFollowed, No_rounds, Has_rounds}
-use Rattle.scx_laws.proofs.Differing.{both_true, and_true, not_so, not_zero, is_some_left}
+use Rattle.scx_laws.proofs.Differing.{none_if_never, both_true, and_true, not_so, not_zero, is_some_left}
 use Rattle.scx_laws.proofs.Cycling.{cycles, only_cycles}
 
 -- ---- who is pending
@@ -90,11 +90,7 @@ only_next s c h = go (next_to_look s) refl
     go (Some d) e = e ∙ ap (λ x. Some x) (one d (next_is s d e) (cases_lt c d) (cases_lt d c))
 
 no_next : (s : State) → ((c : ℕ) → ¬ IsNext s c) → next_to_look s ≡ None
-no_next s n = go (next_to_look s) refl
-  where
-    go : (o : Option ℕ) → next_to_look s ≡ o → next_to_look s ≡ None
-    go None e = e
-    go (Some c) e = absurd (n c (next_is s c e))
+no_next s n = none_if_never (next_to_look s) (λ c e. n c (next_is s c e))
 
 -- ---- one round
 

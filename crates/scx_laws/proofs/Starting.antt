@@ -20,7 +20,7 @@ use Rattle.scx_sched_machine.specs.Start.{is_nowhere, is_bad_shape, blank, init_
 use Rattle.scx_laws.specs.Starts.{IsNowhere, HasBadShape, NoCpu, ManyCpus, Active, Nowhere, Judged, Faults, Exits, Stuck, Refuses, Accepts, Initializes, Passes, HasFault, HasExit, HasStuck, Answers, Calls, CallsByLinux, NotByPlain, IsNotThere, IsCalledFor, Enables, NotEnabled, IsEnabled, EnablesAll, Nobody, Failed, Next, TellsIdleAll, NoneTold, HasFailed, NextTold, AllAreIdle, NobodyHears, IdleFails, IdleTold, BeginsFrom, InitFails, EnableFails, Succeeds}
 use Rattle.scx_laws.specs.Differences.{HearsIdle, HasUpdateIdle}
 use Rattle.scx_laws.specs.Allowing.{RulesAllowStarts, RulesAllowStartsOnly, RulesRefuseShapes, RulesRefuseShapesOnly}
-use Rattle.scx_laws.proofs.Differing.{both_true, and_true, and_false, false_and, false_from, not_so}
+use Rattle.scx_laws.proofs.Differing.{below, past, both_true, and_true, and_false, false_and, false_from, not_so}
 use Rattle.scx_laws.proofs.Readers.{some_below, is_below}
 use Rattle.scx_laws.proofs.Homing.{is_blank, only_blank}
 use Rattle.scx_laws.proofs.Calling.{only_ends, ends_as, answered_first, answered_second}
@@ -30,12 +30,6 @@ use Rattle.scx_laws.proofs.Calling.{only_ends, ends_as, answered_first, answered
 or_true : (b : Bool) → (b || true) ≡ true
 or_true true = refl
 or_true false = refl
-
-below : (k n : ℕ) → k < n → nat_lt k n ≡ true
-below k n l = grind (arith, nat_tests, l)
-
-past : (k n : ℕ) → n ≤ k → nat_lt k n ≡ false
-past k n l = grind (arith, nat_tests, l)
 
 -- a task of a bad shape
 abbrev is_bad_one : Hierarchy → ℕ → ℕ → Bool

@@ -19,7 +19,7 @@ use Rattle.scx_sched_world.specs.declared.call.Insert.{Insert}
 use Rattle.scx_sched_world.specs.declared.eject.Cause.{Cause}
 use Rattle.scx_sched_world.specs.declared.eject.Cause.TheVariants as reason
 use Rattle.scx_sched_world.specs.declared.faults.Fault.{Fault}
-use Rattle.scx_sched_world.specs.declared.faults.Fault.TheVariants.{Stuck, NoSuchQueue, CannotInsert, NoSuchCpu, UnknownFlag, CannotCreate, BuiltinVtime, Mixed, IdleUntracked, NotAllowed}
+use Rattle.scx_sched_world.specs.declared.faults.Fault.TheVariants.{NoSuchQueue, CannotInsert, NoSuchCpu, UnknownFlag, CannotCreate, BuiltinVtime, Mixed, IdleUntracked, NotAllowed}
 use Rattle.scx_sched_world.specs.declared.notes.What.TheVariants as notes
 use Rattle.scx_sched_world.specs.declared.timers.Alarm.{Alarm}
 use Rattle.scx_sched_world.specs.Ids.{policy_end, global, local, held_queue, local_on}
@@ -133,23 +133,13 @@ JudgesInsert w t i flags (Some NotAllowed) =
 JudgesInsert w t i flags None =
     MayInsert w t × AreFlags w flags × IsDestination w i.queue × (¬ IsBuiltinVtime i.queue i.rank)
     × (¬ IsMixed w i.queue i.rank) × (¬ IsForbidden w t i.queue)
-JudgesInsert w t i flags (Some CannotCreate) = ⊥
-JudgesInsert w t i flags (Some Stuck) = ⊥
-JudgesInsert w t i flags (Some IdleUntracked) = ⊥
+JudgesInsert w t i flags (Some f) = ⊥
 
 -- only the flags of a late insert are looked at
 abbrev pub JudgesFlags : WorldState → ℕ → Option Fault → Type 0
 JudgesFlags w flags None = AreFlags w flags
 JudgesFlags w flags (Some UnknownFlag) = ¬ AreFlags w flags
-JudgesFlags w flags (Some CannotInsert) = ⊥
-JudgesFlags w flags (Some NoSuchQueue) = ⊥
-JudgesFlags w flags (Some NoSuchCpu) = ⊥
-JudgesFlags w flags (Some BuiltinVtime) = ⊥
-JudgesFlags w flags (Some Mixed) = ⊥
-JudgesFlags w flags (Some CannotCreate) = ⊥
-JudgesFlags w flags (Some Stuck) = ⊥
-JudgesFlags w flags (Some IdleUntracked) = ⊥
-JudgesFlags w flags (Some NotAllowed) = ⊥
+JudgesFlags w flags (Some f) = ⊥
 
 -- an insert, in time or late
 pub data JudgesAnInsert (w : WorldState) (t : Option ℕ) (i : Insert) (flags : ℕ)
@@ -161,57 +151,25 @@ pub data JudgesAnInsert (w : WorldState) (t : Option ℕ) (i : Insert) (flags : 
 abbrev pub JudgesCreate : WorldState → ℕ → Option Fault → Type 0
 JudgesCreate w q None = CanCreate w q
 JudgesCreate w q (Some CannotCreate) = ¬ CanCreate w q
-JudgesCreate w q (Some CannotInsert) = ⊥
-JudgesCreate w q (Some UnknownFlag) = ⊥
-JudgesCreate w q (Some NoSuchQueue) = ⊥
-JudgesCreate w q (Some NoSuchCpu) = ⊥
-JudgesCreate w q (Some BuiltinVtime) = ⊥
-JudgesCreate w q (Some Mixed) = ⊥
-JudgesCreate w q (Some Stuck) = ⊥
-JudgesCreate w q (Some IdleUntracked) = ⊥
-JudgesCreate w q (Some NotAllowed) = ⊥
+JudgesCreate w q (Some f) = ⊥
 
 -- a call that wants such a queue
 abbrev pub JudgesQueue : Type 0 → Option Fault → Type 0
 JudgesQueue fits None = fits
 JudgesQueue fits (Some NoSuchQueue) = ¬ fits
-JudgesQueue fits (Some CannotCreate) = ⊥
-JudgesQueue fits (Some CannotInsert) = ⊥
-JudgesQueue fits (Some UnknownFlag) = ⊥
-JudgesQueue fits (Some NoSuchCpu) = ⊥
-JudgesQueue fits (Some BuiltinVtime) = ⊥
-JudgesQueue fits (Some Mixed) = ⊥
-JudgesQueue fits (Some Stuck) = ⊥
-JudgesQueue fits (Some IdleUntracked) = ⊥
-JudgesQueue fits (Some NotAllowed) = ⊥
+JudgesQueue fits (Some f) = ⊥
 
 -- a call that wants a timer of the policy
 abbrev pub JudgesTimer : WorldState → ℕ → Option Fault → Type 0
 JudgesTimer w t None = t < length w.timers
 JudgesTimer w t (Some UnknownFlag) = length w.timers ≤ t
-JudgesTimer w t (Some NoSuchQueue) = ⊥
-JudgesTimer w t (Some CannotCreate) = ⊥
-JudgesTimer w t (Some CannotInsert) = ⊥
-JudgesTimer w t (Some NoSuchCpu) = ⊥
-JudgesTimer w t (Some BuiltinVtime) = ⊥
-JudgesTimer w t (Some Mixed) = ⊥
-JudgesTimer w t (Some Stuck) = ⊥
-JudgesTimer w t (Some IdleUntracked) = ⊥
-JudgesTimer w t (Some NotAllowed) = ⊥
+JudgesTimer w t (Some f) = ⊥
 
 -- a call that wants a processor
 abbrev pub JudgesCpu : WorldState → ℕ → Option Fault → Type 0
 JudgesCpu w c None = c < length w.cpus
 JudgesCpu w c (Some NoSuchCpu) = length w.cpus ≤ c
-JudgesCpu w c (Some NoSuchQueue) = ⊥
-JudgesCpu w c (Some CannotCreate) = ⊥
-JudgesCpu w c (Some CannotInsert) = ⊥
-JudgesCpu w c (Some UnknownFlag) = ⊥
-JudgesCpu w c (Some BuiltinVtime) = ⊥
-JudgesCpu w c (Some Mixed) = ⊥
-JudgesCpu w c (Some Stuck) = ⊥
-JudgesCpu w c (Some IdleUntracked) = ⊥
-JudgesCpu w c (Some NotAllowed) = ⊥
+JudgesCpu w c (Some f) = ⊥
 
 -- a question whether a processor is idle, or its claim: where the host doesn't track which are
 -- idle, that is the fault, before any other (ext/idle.c, `check_builtin_idle_enabled`)
@@ -219,57 +177,28 @@ abbrev pub JudgesAsk : WorldState → ℕ → Option Fault → Type 0
 JudgesAsk w c None = (w.tracks_idle ≡ true) × (c < length w.cpus)
 JudgesAsk w c (Some IdleUntracked) = w.tracks_idle ≡ false
 JudgesAsk w c (Some NoSuchCpu) = (w.tracks_idle ≡ true) × (length w.cpus ≤ c)
-JudgesAsk w c (Some NoSuchQueue) = ⊥
-JudgesAsk w c (Some CannotCreate) = ⊥
-JudgesAsk w c (Some CannotInsert) = ⊥
-JudgesAsk w c (Some UnknownFlag) = ⊥
-JudgesAsk w c (Some BuiltinVtime) = ⊥
-JudgesAsk w c (Some Mixed) = ⊥
-JudgesAsk w c (Some Stuck) = ⊥
-JudgesAsk w c (Some NotAllowed) = ⊥
+JudgesAsk w c (Some f) = ⊥
 
 -- the choice of an idle processor for a task; what isn't a task has none, and no fault
 abbrev pub JudgesChoice : WorldState → Option ℕ → Option Fault → Type 0
 JudgesChoice w None o = o ≡ None
 JudgesChoice w (Some t) None = w.tracks_idle ≡ true
 JudgesChoice w (Some t) (Some IdleUntracked) = w.tracks_idle ≡ false
-JudgesChoice w (Some t) (Some NoSuchCpu) = ⊥
-JudgesChoice w (Some t) (Some NoSuchQueue) = ⊥
-JudgesChoice w (Some t) (Some CannotCreate) = ⊥
-JudgesChoice w (Some t) (Some CannotInsert) = ⊥
-JudgesChoice w (Some t) (Some UnknownFlag) = ⊥
-JudgesChoice w (Some t) (Some BuiltinVtime) = ⊥
-JudgesChoice w (Some t) (Some Mixed) = ⊥
-JudgesChoice w (Some t) (Some Stuck) = ⊥
-JudgesChoice w (Some t) (Some NotAllowed) = ⊥
+JudgesChoice w (Some t) (Some f) = ⊥
 
 -- a kick: the flags 0, 1 (IDLE) and 2 (PREEMPT) are known
 abbrev pub JudgesKick : WorldState → ℕ → ℕ → Option Fault → Type 0
 JudgesKick w c flags None = (flags ≤ 2) × (c < length w.cpus)
 JudgesKick w c flags (Some UnknownFlag) = 2 < flags
 JudgesKick w c flags (Some NoSuchCpu) = (flags ≤ 2) × (length w.cpus ≤ c)
-JudgesKick w c flags (Some NoSuchQueue) = ⊥
-JudgesKick w c flags (Some CannotCreate) = ⊥
-JudgesKick w c flags (Some CannotInsert) = ⊥
-JudgesKick w c flags (Some BuiltinVtime) = ⊥
-JudgesKick w c flags (Some Mixed) = ⊥
-JudgesKick w c flags (Some Stuck) = ⊥
-JudgesKick w c flags (Some IdleUntracked) = ⊥
-JudgesKick w c flags (Some NotAllowed) = ⊥
+JudgesKick w c flags (Some f) = ⊥
 
 -- a choice from a mask: the flags 0 and 1, which asks for a whole core, are known
 abbrev pub JudgesPick : WorldState → ℕ → Option Fault → Type 0
 JudgesPick w flags None = (w.tracks_idle ≡ true) × (flags ≤ 1)
 JudgesPick w flags (Some IdleUntracked) = w.tracks_idle ≡ false
 JudgesPick w flags (Some UnknownFlag) = (w.tracks_idle ≡ true) × (1 < flags)
-JudgesPick w flags (Some NoSuchCpu) = ⊥
-JudgesPick w flags (Some NoSuchQueue) = ⊥
-JudgesPick w flags (Some CannotCreate) = ⊥
-JudgesPick w flags (Some CannotInsert) = ⊥
-JudgesPick w flags (Some BuiltinVtime) = ⊥
-JudgesPick w flags (Some Mixed) = ⊥
-JudgesPick w flags (Some Stuck) = ⊥
-JudgesPick w flags (Some NotAllowed) = ⊥
+JudgesPick w flags (Some f) = ⊥
 
 -- the fault of a call, or that it has none; of the look-up of an element, which a run does
 -- itself, nothing is allowed
