@@ -7,3 +7,4 @@ pub mod Forest
 pub mod Plainly
 pub mod OwnWeights
 pub mod Bound
+pub mod Whole

@@ -1,9 +1,16 @@
 -- What is known of a number, an array or a name that was read.
-use Rattle.std.proofs.Common.{◌≡◌, ℕ, suc, ◌+◌, ◌<◌, ◌≤◌, ℤ, pos, negsuc, Bool, true, false, ◌&&◌, ◌==◌, ◌⊎◌, inl, inr, nat_le, if◌then◌else◌, List, [], ◌∷◌, ◌++◌, length, Option, Some, None, Result, Ok, Err, IfOk, Bor, refl, subst, arith}
+use Rattle.std.proofs.Common.{◌≡◌, ℕ, suc, ◌+◌, ◌<◌, ◌≤◌, ℤ, pos, negsuc, Bool, true, false, cond, ◌||◌, ◌&&◌, ◌==◌, ◌⊎◌, inl, inr, nat_le, if◌then◌else◌, List, [], ◌∷◌, ◌++◌, length, position, Option, Some, None, Result, Ok, Err, IfOk, Bor, refl, sym, ap, ◌∙◌, subst, arith}
 use Rattle.std.proofs.lemmas.Bool.{cases_lt}
 use Rattle.std.proofs.lemmas.Bool.Decides.{nat_tests}
 use Rattle.std.proofs.lemmas.List.{length-append, get_or_append_left, get_or-append-add}
+use Rattle.std.proofs.lemmas.Iterator.Adapters.{position_from-zero}
+use Rattle.std.specs.Cmp.Lexicographic.{nat_list_eq_equiv}
+use Rattle.std.specs.declared.alloc.Global.{Global}
+use Rattle.std.specs.List.{list_any, position_from}
 use Rattle.std.specs.Str.{bytes_eq}
+use Rattle.std.specs.Prelude.{String}
+use Rattle.std.specs.String.{string_bytes, string_eq}
+use Rattle.indexmap.specs.IndexSet.{insert_key}
 use Rattle.toml.specs.Data.{Data, string, integer, float, boolean, datetime, array, table, Items, no_items, Members, get_member}
 use Rattle.toml.specs.View.{items_view}
 use Rattle.toml.specs.declared.value.Value.{Value}
@@ -17,7 +24,8 @@ use Rattle.scx_load_files.proofs.Counts.{count_of_view}
 use Rattle.scx_load_workloads.specs.declared.workload.Timing.{Timing}
 use Rattle.scx_load_workloads.specs.declared.workload.Change.{Change}
 use Rattle.scx_load_workloads.specs.Workload.{IsOwnWeight, IsTiming, IsChange, own_weight_at, timing_at, change_at}
-use Rattle.scx_load_workloads.specs.Reading.{some_of, index_from}
+use Rattle.scx_load_workloads.specs.Reading.{some_of, index_from, index_of}
+use Rattle.scx_load_workloads.specs.KeptNames.{texts}
 
 -- ---- numbers
 
@@ -128,6 +136,34 @@ place_below i (n ∷ names) name k e = go (bytes_eq n name) (λ f. place_below (
     go : (b : Bool) → (index_from (i + 1) names name ≡ Some k → k < i + 1 + length names) → (if b then Some i else index_from (i + 1) names name) ≡ Some k → k < i + suc (length names)
     go true f e = let same : i ≡ k = same_some i k e in omega (arith, same)
     go false f e = omega (arith, f e)
+
+-- the number of a name from the i-th on is its place
+index_from_is : (i : ℕ) (names : List (String Global)) (name : List ℕ) → index_from i (texts names) name ≡ position_from (λ n. bytes_eq name (string_bytes n)) i names
+index_from_is i [] name = refl
+index_from_is i (n ∷ names) name =
+    ap (λ b. cond b (Some i) (index_from (i + 1) (texts names) name)) (nat_list_eq_equiv.symm (string_bytes n) name)
+    ∙ ap (λ (o : Option ℕ). cond (bytes_eq name (string_bytes n)) (Some i) o) (index_from_is (i + 1) names name)
+
+-- the number of a name is its place
+pub index_is : (names : List (String Global)) (name : List ℕ) → index_of (texts names) name ≡ position (λ n. bytes_eq name (string_bytes n)) names
+index_is names name = index_from_is 0 names name ∙ sym (position_from-zero (λ n. bytes_eq name (string_bytes n)) names)
+
+-- no name before is the one that isn't found
+none_alike : (i : ℕ) (names : List (String Global)) (name : String Global) → index_from i (texts names) (string_bytes name) ≡ None → list_any (string_eq name) names ≡ false
+none_alike i [] name e = refl
+none_alike i (n ∷ names) name e =
+    go (bytes_eq (string_bytes n) (string_bytes name)) (nat_list_eq_equiv.symm (string_bytes n) (string_bytes name)) (none_alike (i + 1) names name) e
+  where
+    go : (b : Bool) → b ≡ string_eq name n → (index_from (i + 1) (texts names) (string_bytes name) ≡ None → list_any (string_eq name) names ≡ false)
+        → (if b then Some i else index_from (i + 1) (texts names) (string_bytes name)) ≡ None → (string_eq name n || list_any (string_eq name) names) ≡ false
+    go true x f e = absurd (cc)
+    go false x f e = ap (λ b. b || list_any (string_eq name) names) (sym x) ∙ f e
+
+-- one that isn't found goes last
+pub goes_last : (names keys : List (String Global)) (text : String Global) (name : List ℕ) → string_bytes text ≡ name → index_of (texts names) name ≡ None → keys ≡ insert_key string_eq names text
+    → keys ≡ names ++ text ∷ []
+goes_last names keys text name said absent e =
+    e ∙ ap (λ b. if b then names else names ++ text ∷ []) (none_alike 0 names text (ap (λ n. index_of (texts names) n) said ∙ absent))
 
 -- ---- one more
 

@@ -1,15 +1,11 @@
 -- The meaning of the fields of a workload, and of its parts as they are read.
-use Rattle.std.specs.Prelude.{◌≡◌, ℕ, ◌<◌, ◌≤◌, List, String, length, map, string_bytes}
-use Rattle.std.specs.declared.alloc.Global.{Global}
+use Rattle.std.specs.Prelude.{◌≡◌, ℕ, ◌<◌, ◌≤◌, length}
 use Rattle.scx_load_workloads.specs.declared.workload.Workload.TheInside.{Inside}
 use Rattle.scx_load_workloads.specs.declared.groups.Groups.TheInside.{Inside as InsideGroups}
 use Rattle.scx_load_workloads.specs.declared.tasks.Tasks.TheInside.{Inside as InsideTasks}
 use Rattle.scx_load_workloads.specs.Workload.{WorkloadState, IsOwnWeight, own_weight_at, IsTiming, timing_at}
+use Rattle.scx_load_workloads.specs.KeptNames.{texts}
 use Rattle.scx_load_workloads.specs.Reading.{GroupList, TaskList}
-
--- the bytes of each of some names
-abbrev pub texts : List (String Global) → List (List ℕ)
-texts names = map (λ name. string_bytes name) names
 
 -- the workload that the fields of a `Workload` mean
 abbrev pub state_of : Inside → WorkloadState
@@ -31,17 +27,17 @@ state_of w = record {
 
 -- the groups, with their names, that the fields of a `Groups` mean
 abbrev pub groups_of : InsideGroups → GroupList
-groups_of g = record { names = texts g.names.items; groups = g.groups.items }
+groups_of g = record { names = g.names; groups = g.groups.items }
 
 -- what holds of groups as they are read: each has a name, and there are 256 at most
 pub record AreGroups (g : InsideGroups) : Type 0 where
-  pub even : length g.names.items ≡ length g.groups.items
+  pub even : length g.names ≡ length g.groups.items
   pub few : length g.groups.items ≤ 256
 
 -- the tasks, with their names, that the fields of a `Tasks` mean
 abbrev pub tasks_of : InsideTasks → TaskList
 tasks_of t = record {
-  names = texts t.names.items;
+  names = t.names;
   homes = t.homes.items;
   own_weights = t.own_weights.items;
   masks = t.masks.items;
@@ -51,7 +47,7 @@ tasks_of t = record {
 -- what holds of tasks as they are read: each has a name, a mask, and a weight and times that are in
 -- their limits
 pub record AreTasks (t : InsideTasks) : Type 0 where
-  pub named : length t.names.items ≡ length t.homes.items
+  pub named : length t.names ≡ length t.homes.items
   pub weighed : length t.own_weights.items ≡ length t.homes.items
   pub masked : length t.masks.items ≡ length t.homes.items
   pub timed : length t.timings.items ≡ length t.homes.items

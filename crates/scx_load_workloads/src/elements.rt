@@ -5,7 +5,7 @@ ghost use Rattle.toml.specs.View.{table_view, items_view};
 ghost use Rattle.scx_load_files.specs.Faults.{Gives};
 ghost use Rattle.scx_load_files.specs.Values.{required, optional, integer_of, elements_of};
 ghost use Rattle.scx_load_workloads.specs.Reading.{some_elements, index_of};
-ghost use Rattle.scx_load_workloads.specs.Kept.{texts};
+ghost use Rattle.scx_load_workloads.specs.KeptNames.{texts};
 
 use scx_load_files::{Cause, Limits, LoadError, Section, refused};
 use std::alloc::Global;

@@ -7,11 +7,12 @@ ghost use Rattle.scx_load_files.specs.Paths.{below};
 ghost use Rattle.scx_load_files.specs.Values.{required, optional};
 ghost use Rattle.scx_weights.specs.Hierarchy.{parent_of};
 ghost use Rattle.scx_weights.specs.Refusals.{above, is_parent};
-ghost use Rattle.scx_load_workloads.specs.Reading.{new_name, is_deep, has_children, fold_from};
-ghost use Rattle.scx_load_workloads.specs.Kept.{texts};
+ghost use Rattle.scx_load_workloads.specs.Reading.{index_of, new_name, is_deep, has_children, fold_from};
+ghost use Rattle.scx_load_workloads.specs.KeptNames.{texts};
 
-use crate::elements::{index_of, integer_or, some_elements};
+use crate::elements::{integer_or, some_elements};
 use crate::limit::read_limit;
+use crate::names::Names;
 use scx_load_files::{Cause, Limits, LoadError, Section, element_path, refused};
 use scx_weights::{Group, MAX_GROUPS, MAX_WEIGHT, MIN_WEIGHT};
 use std::alloc::Global;
@@ -29,7 +30,7 @@ const DEFAULT_WEIGHT: u32 = 100;
 /// The groups that were read so far.
 #[derive(Drop)]
 pub struct Groups {
-    names: Vec<String>,
+    names: Names,
     groups: Vec<Group>,
 }
 
@@ -81,7 +82,7 @@ impl Groups {
         ensures { result ≡ no_groups }
     {
         Groups {
-            names: Vec::new(alloc),
+            names: Names::none(alloc),
             groups: Vec::new(alloc),
         }
     }
@@ -114,11 +115,12 @@ impl Groups {
         alloc: Global,
         section: Section<'a>,
     ) -> Result<(&'a str, Group), LoadError>
-        ensures { Gives (λ read. (record {
+        ensures group { Gives (λ read. (record {
           names = self.now.names ++ read.0.now ∷ [];
           groups = self.now.groups ++ read.1 ∷ [];
         })) result
             (with_group self.now section.entry.path.now (table_view section.entry.table.now)) }
+        ensures new { IfOk result (λ read. index_of self.now.names read.0.now ≡ None) }
     {
         let name = new_name(alloc, &self.names, section)?;
         let weight = integer_or(alloc, section, "weight", WEIGHT, DEFAULT_WEIGHT)?;
@@ -134,7 +136,8 @@ impl Groups {
     }
 
     fn push(&mut self, alloc: Global, name: &str, group: Group) -> Result<(), LoadError>
-        requires { length self.old.groups < 256 }
+        requires few { length self.old.groups < 256 }
+        requires new { index_of self.old.names name.now ≡ None }
         ensures groups { OnOk result
             (self.new
             ≡ (record {
@@ -144,10 +147,8 @@ impl Groups {
             })) }
         ensures memory { IfErr result (λ e. e ≡ NoMemory) }
     {
-        let name = String::from_str(alloc, name)?;
-        self.names.reserve(1)?;
         self.groups.reserve(1)?;
-        self.names.push_reserved(name);
+        self.names.push(alloc, name)?;
         self.groups.push_reserved(group);
         Ok(())
     }
@@ -183,7 +184,7 @@ impl Groups {
         ensures known { IfOk result (λ n. n < length self.now.groups) }
     {
         let name = section.text_in(alloc, key, value)?;
-        match index_of(&self.names, name) {
+        match self.names.index_of(name) {
             Some(group) => Ok(group as u32),
             None => refused(alloc, section.path, key, Cause::NoSuchGroup),
         }
@@ -221,24 +222,25 @@ impl Groups {
         ensures names { texts result.1.items ≡ self.names }
         ensures even { length self.names ≡ length self.groups }
     {
-        (self.groups, self.names)
+        (self.groups, self.names.into_list())
     }
 }
 
 /// The name of an element, which is none of these names. `Missing`, `WrongType`, `BadName` or `Twice`.
 pub(crate) fn new_name<'a>(
     alloc: Global,
-    names: &[String],
+    names: &Names,
     section: Section<'a>,
 ) -> Result<&'a str, LoadError>
-    ensures { Gives (λ t. t.now) result
-        (new_name (texts names.now) section.entry.path.now (table_view section.entry.table.now)) }
+    ensures name { Gives (λ t. t.now) result
+        (new_name names.now section.entry.path.now (table_view section.entry.table.now)) }
+    ensures new { IfOk result (λ t. index_of names.now t.now ≡ None) }
 {
     let name = section.name(alloc, "name")?;
-    if index_of(names, name).is_some() {
-        return refused(alloc, section.path, "name", Cause::Twice);
+    match names.index_of(name) {
+        Some(_) => refused(alloc, section.path, "name", Cause::Twice),
+        None => Ok(name),
     }
-    Ok(name)
 }
 
 fn parent_of(groups: &[Group], group: u32) -> Option<u32>

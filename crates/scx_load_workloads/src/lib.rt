@@ -10,6 +10,7 @@ mod elements;
 mod groups;
 mod laws;
 mod limit;
+mod names;
 mod numerals;
 mod reading;
 mod tasks;

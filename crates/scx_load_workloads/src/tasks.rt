@@ -1,16 +1,17 @@
 //! The tasks of a workload file.
-ghost use Rattle.std.specs.Prelude.{◌≡◌, ℕ, ◌+◌, ◌<◌, ◌≤◌, ◌++◌, ◌∷◌, [], codes, length, IfOk, OnOk, IfErr};
+ghost use Rattle.std.specs.Prelude.{◌≡◌, ℕ, ◌+◌, ◌<◌, ◌≤◌, ◌++◌, ◌∷◌, [], None, codes, length, IfOk, OnOk, IfErr};
 ghost use Rattle.toml.specs.View.{view, table_view, items_view};
 ghost use Rattle.scx_load_files.specs.declared.fault.LoadError.TheVariants.{NoMemory};
 ghost use Rattle.scx_load_files.specs.Faults.{Gives};
 ghost use Rattle.scx_load_files.specs.Paths.{below};
 ghost use Rattle.scx_load_workloads.specs.Workload.{IsOwnWeight, own_weight_at, IsTiming, timing_at};
-ghost use Rattle.scx_load_workloads.specs.Reading.{own_weight_in, timing_in, fold_from};
-ghost use Rattle.scx_load_workloads.specs.Kept.{texts};
+ghost use Rattle.scx_load_workloads.specs.Reading.{index_of, own_weight_in, timing_in, fold_from};
+ghost use Rattle.scx_load_workloads.specs.KeptNames.{texts};
 
 use crate::cpu_lists::read_mask;
-use crate::elements::{index_of, integer_or, some_elements};
+use crate::elements::{integer_or, some_elements};
 use crate::groups::{Groups, WEIGHT, new_name};
+use crate::names::Names;
 use crate::workload::{MAX_MS, Timing};
 use scx_isa_semantics::Rules;
 use scx_load_files::{Cause, Limits, LoadError, Section, element_path, refused};
@@ -28,7 +29,7 @@ pub(crate) const TIME: Limits = Limits {
 /// The tasks that were read so far.
 #[derive(Drop)]
 pub struct Tasks {
-    pub(crate) names: Vec<String>,
+    pub(crate) names: Names,
     pub(crate) homes: Vec<u32>,
     pub(crate) own_weights: Vec<u32>,
     pub(crate) masks: Vec<u64>,
@@ -103,7 +104,7 @@ impl Tasks {
         ensures { result ≡ no_tasks }
     {
         Tasks {
-            names: Vec::new(alloc),
+            names: Names::none(alloc),
             homes: Vec::new(alloc),
             own_weights: Vec::new(alloc),
             masks: Vec::new(alloc),
@@ -165,6 +166,7 @@ impl Tasks {
         mask: u64,
         timing: Timing,
     ) -> Result<(), LoadError>
+        requires new { index_of self.old.names name.now ≡ None }
         requires weight { IsOwnWeight weight }
         requires timing { IsTiming timing }
         ensures tasks { OnOk result
@@ -179,13 +181,11 @@ impl Tasks {
             })) }
         ensures memory { IfErr result (λ e. e ≡ NoMemory) }
     {
-        let name = String::from_str(alloc, name)?;
-        self.names.reserve(1)?;
         self.homes.reserve(1)?;
         self.own_weights.reserve(1)?;
         self.masks.reserve(1)?;
         self.timings.reserve(1)?;
-        self.names.push_reserved(name);
+        self.names.push(alloc, name)?;
         self.homes.push_reserved(home);
         self.own_weights.push_reserved(weight);
         self.masks.push_reserved(mask);
@@ -207,7 +207,7 @@ impl Tasks {
         ensures known { IfOk result (λ n. n < length self.now.homes) }
     {
         let name = section.text_in(alloc, "task", value)?;
-        match index_of(&self.names, name) {
+        match self.names.index_of(name) {
             Some(task) => Ok(task as u16),
             None => refused(alloc, section.path, "task", Cause::NoSuchTask),
         }
@@ -229,7 +229,7 @@ impl Tasks {
     {
         (
             self.homes,
-            self.names,
+            self.names.into_list(),
             self.own_weights,
             self.masks,
             self.timings,

@@ -1,5 +1,5 @@
 use Rattle.std.proofs.Common.{◌≡◌, drop}
-use Rattle.scx_load_workloads.specs.Kept.{texts}
+use Rattle.scx_load_workloads.specs.KeptNames.{texts}
 use Rattle.scx_load_workloads.specs.Reading.{index_from, index_of}
 use Rattle.scx_load_workloads.proofs.elements.index_of.Given as goal
 

@@ -1,12 +1,14 @@
-use Rattle.std.proofs.Common.{ℕ, ◌<◌, List, length, sym, ap, ◌∙◌, subst}
+use Rattle.std.proofs.Common.{ℕ, ◌<◌, List, length, Ok, sym, ap, ◌∙◌, subst}
 use Rattle.toml.specs.View.{table_view}
 use Rattle.scx_weights.specs.declared.group.Group.{Group}
 use Rattle.scx_weights.specs.Refusals.{first_fault}
 use Rattle.scx_load_workloads.specs.declared.workload.Timing.{Timing}
 use Rattle.scx_load_workloads.specs.Workload.{IsTiming, IsChange, timing_at, change_at}
+use Rattle.scx_load_workloads.specs.KeptNames.{texts}
 use Rattle.scx_load_workloads.proofs.Forest.{tree_is_right}
 use Rattle.scx_load_workloads.proofs.OwnWeights.{AreOwn, AreMasks}
 use Rattle.scx_load_workloads.proofs.Bound.{masks_are_right}
+use Rattle.scx_load_workloads.proofs.Whole.{read_whole, same_whole}
 use Rattle.scx_load_workloads.proofs.reading.read_known_keys_by.Goals as goal
 
 pub invariant_of-result : goal.invariant_of-result
@@ -42,3 +44,19 @@ invariant_of-result c =
           subst (λ (hs : List ℕ). (i : ℕ) → i < length xs → IsChange (length c.into_parts-groups.result.0.items) (length hs) (change_at xs i)) (sym tasks.homes)
           (subst (λ (gs : List Group). (i : ℕ) → i < length xs → IsChange (length gs) (length c.in-Ok.tasks.homes) (change_at xs i)) (sym groups.groups) changes.valid);
     }
+
+pub returns-in-Ok-read_changes : goal.returns-in-Ok-read_changes
+returns-in-Ok-read_changes c =
+    let ms = table_view c.args.file.table.now in
+    let groups = c.into_parts-groups.ensures in
+    let tasks = c.into_parts-homes.ensures in
+    let read = c.in-Ok.ensures {u = tt} in
+    let changes = c.in-Ok-read_changes.ensures {u = tt} in
+    let whole =
+    read_whole c.args.rules ms c.args.file.path.now c.in_ok-cpus.cpus c.in_ok-ms.ms c.in_ok-seed.seed c.in_ok-groups.groups c.in-Ok.tasks c.in-Ok-read_changes.changes.items c.requires c.in_ok-cpus.ensures.value
+    c.in_ok-ms.ensures.value c.in_ok-seed.ensures.seed c.in_ok-groups.ensures read.tasks changes.changes in
+    let same =
+    same_whole c.in_ok-cpus.cpus c.in_ok-ms.ms c.in_ok-seed.seed c.in_ok-groups.groups c.in-Ok.tasks c.in-Ok-read_changes.changes.items c.into_parts-groups.result.0.items (texts c.into_parts-groups.result.1.items)
+    c.into_parts-homes.result.0.items (texts c.into_parts-homes.result.1.items) c.into_parts-homes.result.2.items c.into_parts-homes.result.3.items c.into_parts-homes.result.4.items groups.groups groups.names
+    tasks.homes tasks.names tasks.own_weights tasks.masks tasks.timings in
+    whole ∙ ap (λ w. Ok w) same
