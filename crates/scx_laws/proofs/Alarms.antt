@@ -1,5 +1,7 @@
 -- Helpers that start and cancel a timer: what they answer and leave is allowed, and nothing else is.
 use Rattle.std.proofs.Common.{◌≡◌, ℕ, ◌+◌, Bool, true, false, nat_lt, if◌then◌else◌, List, length, Option, Some, None, refl, sym, ◌∙◌, ap, arith}
+use Rattle.scx_sched.proofs.Events.{is_task}
+use Rattle.std.proofs.lemmas.Bool.{false_from_ne_true}
 use Rattle.std.proofs.lemmas.Bool.Decides.{nat_tests}
 use Rattle.scx_isa_semantics.specs.declared.host_tables.Helper.TheVariants.{TimerStart, TimerCancel}
 use Rattle.scx_vm.specs.declared.arguments.Arg.{Arg}
@@ -12,9 +14,9 @@ use Rattle.scx_sched_world.specs.declared.timers.Alarm.{Alarm}
 use Rattle.scx_sched_world.specs.World.{WorldState, is_this, here}
 use Rattle.scx_sched_world.specs.Helpers.{given_number, invalid_if, unless_fault, fault_or, timer_fault, delay_ms, with_timer, alarm_in, alarm_at, cancelled_answer}
 use Rattle.scx_laws.specs.Helpers.{JudgesTimer, IsDelay, StartsTimer, CancelsTimer, OfItself, WasStarted, NotStarted, IsEffect, Done, NamesTask, Wrong}
-use Rattle.scx_laws.proofs.Differing.{false_from, not_so, is_here, only_here}
+use Rattle.scx_laws.proofs.Differing.{not_so, is_here, only_here}
 use Rattle.scx_laws.proofs.Ejecting.{blames, only_blames}
-use Rattle.scx_laws.proofs.Readers.{Is-effect, Is-this, this_is, this_of}
+use Rattle.scx_laws.proofs.Readers.{Is-effect, Is-this, this_of}
 
 -- ---- faults
 
@@ -86,7 +88,7 @@ cancels : (w : WorldState) (t : ℕ) → CancelsTimer w t (cancelled_answer (is_
 cancels w t = go (is_this t w.passing.timer) refl (alarm_at w t) refl
   where
     go : (b : Bool) → is_this t w.passing.timer ≡ b → (o : Option Alarm) → alarm_at w t ≡ o → CancelsTimer w t (cancelled_answer b o) (cancelled_if w t b)
-    go true e o k = OfItself (this_is t w.passing.timer e) refl refl
+    go true e o k = OfItself (is_task t w.passing.timer e) refl refl
     go false e (Some a) k = WasStarted a (λ y. not_so (is_this t w.passing.timer) e (this_of t w.passing.timer y)) k refl refl
     go false e None k = NotStarted (λ y. not_so (is_this t w.passing.timer) e (this_of t w.passing.timer y)) k refl refl
 
@@ -98,10 +100,10 @@ only_cancels w t n v (OfItself e k z) =
     let b = this_of t w.passing.timer e in
     (k ∙ ap (λ x. cancelled_answer x (alarm_at w t)) (sym b), z ∙ ap (λ x. cancelled_if w t x) (sym b))
 only_cancels w t n v (WasStarted a d x k z) =
-    let b = false_from (is_this t w.passing.timer) (λ y. d (this_is t w.passing.timer y)) in
+    let b = false_from_ne_true (is_this t w.passing.timer) (λ y. d (is_task t w.passing.timer y)) in
     (k ∙ ap (λ o. cancelled_answer false o) (sym x) ∙ ap (λ y. cancelled_answer y (alarm_at w t)) (sym b), z ∙ ap (λ y. cancelled_if w t y) (sym b))
 only_cancels w t n v (NotStarted d x k z) =
-    let b = false_from (is_this t w.passing.timer) (λ y. d (this_is t w.passing.timer y)) in
+    let b = false_from_ne_true (is_this t w.passing.timer) (λ y. d (is_task t w.passing.timer y)) in
     (k ∙ ap (λ o. cancelled_answer false o) (sym x) ∙ ap (λ y. cancelled_answer y (alarm_at w t)) (sym b), z ∙ ap (λ y. cancelled_if w t y) (sym b))
 
 abbrev cancel_answer : WorldState → ℕ → ℕ

@@ -1,11 +1,12 @@
 -- A machine of a policy of one line begins with its line: where init doesn't create it, the machine can't begin.
-use Rattle.std.proofs.Common.{◌≡◌, ℕ, zero, suc, ◌+◌, ◌<◌, ◌≤◌, ◌⊎◌, inl, inr, ℤ, Bool, true, false, ◌==◌, ◌&&◌, ◌||◌, not, nat_lt, if◌then◌else◌, List, [], ◌∷◌, length, replicate, get_or, Option, Some, None, is_none, is_some, Result, Ok, Err, refl, sym, ap, ◌∙◌, subst, arith}
-use Rattle.std.proofs.lemmas.Bool.{cases_lt}
+use Rattle.std.proofs.Common.{◌≡◌, ℕ, zero, suc, ◌<◌, ℤ, Bool, true, false, ◌==◌, ◌&&◌, ◌||◌, not, nat_lt, if◌then◌else◌, List, [], ◌∷◌, length, get_or, Option, Some, None, is_none, is_some, Result, Ok, Err, refl, sym, ap, ◌∙◌, subst, arith}
+use Rattle.scx_sched.proofs.First.{nowhere}
+use Rattle.std.proofs.lemmas.Bool.{or_right}
 use Rattle.std.proofs.lemmas.Bool.Decides.{nat_tests}
-use Rattle.std.proofs.lemmas.List.{length-replicate, get_or-replicate, get_or_past}
+use Rattle.std.proofs.lemmas.List.{length-replicate}
 use Rattle.std.proofs.lemmas.List.Folds.{list_any-append}
-use Rattle.scx_dsq.specs.Queues.{QueueState, exists, entry_of}
-use Rattle.scx_dsq.specs.Calls.{clashes, create_refusal, with_queue, after_create, empty}
+use Rattle.scx_dsq.specs.Queues.{QueueState, exists}
+use Rattle.scx_dsq.specs.Calls.{clashes, create_refusal, with_queue, after_create}
 use Rattle.scx_dsq.specs.declared.entries.Entry.{Entry}
 use Rattle.scx_dsq.specs.declared.errors.QueueError.{QueueError}
 use Rattle.scx_dsq.specs.declared.entries.Rank.TheVariants.{Fifo}
@@ -17,12 +18,11 @@ use Rattle.scx_vm.specs.Programs.{VerifiedProgram}
 use Rattle.scx_maps.specs.Contents.{zeros}
 use Rattle.scx_weights.specs.Hierarchy.{Hierarchy, is_active_task, own_weight, binds}
 use Rattle.scx_weights.specs.Counting.{any_below}
-use Rattle.scx_sched_world.specs.First.{with_locals, own_queues, first_queues, first_world, with_homes_below, at_first_homes}
+use Rattle.scx_sched_world.specs.First.{first_world, with_homes_below, at_first_homes}
 use Rattle.scx_sched_world.specs.World.{WorldState, with_queues, are_linux, at_callback, quiet}
 use Rattle.scx_sched_world.specs.Tasks.{begun_periods}
 use Rattle.scx_sched_world.specs.Helpers.{invalid, with_fault, can_create, create_answer, after_create_dsq}
 use Rattle.scx_sched_world.specs.declared.faults.Fault.TheVariants.{CannotCreate}
-use Rattle.scx_sched_world.specs.Ids.{global, held_queue, builtin_queue, parked_queue, local_on}
 use Rattle.scx_sched_policy.specs.Policy.{PolicyState, program_of, tracks_idle}
 use Rattle.scx_sched_machine.specs.Steps.{State, with_world, is_by_linux}
 use Rattle.scx_sched_machine.specs.Callbacks.{call_ending, after_callback, acting, no_arguments, one_task, task_and_number}
@@ -36,29 +36,9 @@ use Rattle.scx_laws.proofs.InLine.{IsInLine, IsKeptInLine, world_plain, acts_not
 entries_created : (s : QueueState) (q : ℕ) → (after_create s q).entries ≡ s.entries
 entries_created s q = keeps_if (λ (x : QueueState). x.entries ≡ s.entries) (is_none (create_refusal s q)) (with_queue s q) s refl refl
 
-entries_locals : (n : ℕ) (s : QueueState) → (with_locals n s).entries ≡ s.entries
-entries_locals zero s = refl
-entries_locals (suc n) s = entries_created (with_locals n s) (local_on n) ∙ entries_locals n s
-
-entries_first : (cpus tasks : ℕ) → (first_queues cpus tasks).entries ≡ replicate tasks None
-entries_first cpus tasks =
-    let none = empty (20 + cpus) tasks in
-    let one = after_create none global in
-    let two = after_create one held_queue in
-    let three = after_create two builtin_queue in
-    entries_locals cpus (own_queues cpus tasks) ∙ (entries_created three parked_queue ∙ (entries_created two builtin_queue ∙ (entries_created one held_queue ∙ entries_created none global)))
-
-none_first : (cpus tasks u : ℕ) → entry_of (first_queues cpus tasks) u ≡ None
-none_first cpus tasks u = ap (λ (xs : List (Option Entry)). get_or xs u None) (entries_first cpus tasks) ∙ go (cases_lt u tasks)
-  where
-    go : (u < tasks) ⊎ (tasks ≤ u) → get_or (replicate {A = Option Entry} tasks None) u None ≡ None
-    go (inl l) = get_or-replicate {A = Option Entry} tasks u None None l
-    go (inr past) = get_or_past {X = Option Entry} (replicate {A = Option Entry} tasks None) u None (omega (arith, past, length-replicate {A = Option Entry} tasks None))
-
--- a test or true is true
-pub or_true : (b : Bool) → (b || true) ≡ true
-or_true true = refl
-or_true false = refl
+-- one state is another
+same_ok : (a b : State) → ◌≡◌ {A = Result State ℤ} (Ok a) (Ok b) → a ≡ b
+same_ok a b e = cc
 
 -- ---- callbacks that such a policy doesn't have
 
@@ -99,18 +79,18 @@ module _ (slice : ℕ) (p : PolicyState) (tree : Hierarchy) (cpus : ℕ) (line :
     rules = plain;
     some = omega (arith, length-replicate {A = Option ℕ} cpus None, some_cpu);
     tracks = tracked;
-    ready = record { there = there; fits = refl; alike = λ u. ap (λ o. clashes 0 Fifo o) (ap (λ (xs : List (Option Entry)). get_or xs u None) (entries_created w.queues 0) ∙ none_first cpus (length tree.homes) u) };
+    ready = record { there = there; fits = refl; alike = λ u. ap (λ o. clashes 0 Fifo o) (ap (λ (xs : List (Option Entry)). get_or xs u None) (entries_created w.queues 0) ∙ nowhere cpus (length tree.homes) u) };
     stall = λ x e. absurd (cc);
   }
     where
       tracked : tracks_idle p ≡ true
-      tracked = ap (λ (r : Rules). p.keeps_idle || not (are_linux r && is_some (program_of p callback.UpdateIdle))) plain ∙ or_true p.keeps_idle
+      tracked = ap (λ (r : Rules). p.keeps_idle || not (are_linux r && is_some (program_of p callback.UpdateIdle))) plain ∙ or_right p.keeps_idle true refl
 
       there : exists (after_create w.queues 0) 0 ≡ true
       there = go (create_refusal w.queues 0) may
         where
           go : (o : Option QueueError) → is_none o ≡ true → exists (if is_none o then with_queue w.queues 0 else w.queues) 0 ≡ true
-          go None e = list_any-append (λ other. other == 0) w.queues.ids (0 ∷ []) ∙ or_true (exists w.queues 0)
+          go None e = list_any-append (λ other. other == 0) w.queues.ids (0 ∷ []) ∙ or_right (exists w.queues 0) true refl
           go (Some x) e = absurd (cc)
 
   -- how init ends
@@ -124,46 +104,34 @@ module _ (slice : ℕ) (p : PolicyState) (tree : Hierarchy) (cpus : ℕ) (line :
   unfolding after_init
   initialized s e = go (can_create at_init 0) refl (sym (ap (λ (x : Ending WorldState). ok_unless (bad_answer x.outside.call.cause x.answer) (after_callback p x)) ended) ∙ e)
     where
-      same : (a b : State) → ◌≡◌ {A = Result State ℤ} (Ok a) (Ok b) → a ≡ b
-      same a b x = cc
-
       ending : Bool → Ending WorldState
       ending b = record { answer = Some (if b then 0 else invalid); maps = zeros p.shapes; outside = if b then with_queues at_init (after_create at_init.queues 0) else with_fault at_init CannotCreate }
 
       go : (b : Bool) → can_create at_init 0 ≡ b → ok_unless (bad_answer (ending b).outside.call.cause (ending b).answer) (after_callback p (ending b)) ≡ Ok s → IsKeptInLine slice s
-      go true may x = subst (IsKeptInLine slice) (same created s x) (line, created_line may)
+      go true may x = subst (IsKeptInLine slice) (same_ok created s x) (line, created_line may)
       go false may x = absurd (cc)
 
   -- ---- each task and each processor
 
   enabled : (n : ℕ) (s t : State) → after_enables n s ≡ Ok t → IsKeptInLine slice s → IsKeptInLine slice t
-  enabled zero s t e h = subst (IsKeptInLine slice) (same s t e) h
-    where
-      same : (a b : State) → ◌≡◌ {A = Result State ℤ} (Ok a) (Ok b) → a ≡ b
-      same a b x = cc
+  enabled zero s t e h = subst (IsKeptInLine slice) (same_ok s t e) h
   enabled (suc n) s t e h = go (after_enables n s) (λ u x. enabled n s u x h) refl e
     where
-      same : (a b : State) → ◌≡◌ {A = Result State ℤ} (Ok a) (Ok b) → a ≡ b
-      same a b x = cc
-
       go : (o : Result State ℤ) → ((u : State) → after_enables n s ≡ Ok u → IsKeptInLine slice u) → after_enables n s ≡ o → then_enable o n ≡ Ok t → IsKeptInLine slice t
       go (Err j) f x y = absurd (cc)
       go (Ok u) f x y =
           let h = f u x in
           let v = with_world u (at_callback u.world callback.Enable n 0) in
           let k : IsKeptInLine slice v = (h.0, line_at u.world callback.Enable n 0 h.1) in
-          subst (IsKeptInLine slice) (same v t (sym (nothing_weighed v n (world_plain v.world k.1.rules)) ∙ (sym (ap (λ (r : Result State ℤ). then_weigh r n) (nothing_enabled u n h.0)) ∙ y))) k
+          subst (IsKeptInLine slice) (same_ok v t (sym (nothing_weighed v n (world_plain v.world k.1.rules)) ∙ (sym (ap (λ (r : Result State ℤ). then_weigh r n) (nothing_enabled u n h.0)) ∙ y))) k
 
   all_heard : (r : Result State ℤ) (t : State) → all_enabled r ≡ Ok t → ((s : State) → r ≡ Ok s → IsKeptInLine slice s) → IsKeptInLine slice t
   all_heard (Err j) t e f = absurd (cc)
   all_heard (Ok s) t e f = go (after_enables (length s.world.tasks) s) (λ u x. enabled (length s.world.tasks) s u x (f s refl)) refl e
     where
-      same : (a b : State) → ◌≡◌ {A = Result State ℤ} (Ok a) (Ok b) → a ≡ b
-      same a b x = cc
-
       go : (o : Result State ℤ) → ((u : State) → after_enables (length s.world.tasks) s ≡ Ok u → IsKeptInLine slice u) → after_enables (length s.world.tasks) s ≡ o → then_all_idle o ≡ Ok t → IsKeptInLine slice t
       go (Err j) f x y = absurd (cc)
-      go (Ok u) f x y = let h = f u x in subst (IsKeptInLine slice) (same u t (sym (ap (λ b. if b && is_some (program_of u.policy callback.UpdateIdle) then unmarked (after_idles (length u.world.cpus) u) else Ok u) (world_plain u.world h.1.rules)) ∙ y)) h
+      go (Ok u) f x y = let h = f u x in subst (IsKeptInLine slice) (same_ok u t (sym (ap (λ b. if b && is_some (program_of u.policy callback.UpdateIdle) then unmarked (after_idles (length u.world.cpus) u) else Ok u) (world_plain u.world h.1.rules)) ∙ y)) h
 
   -- the first state
   pub line_begins : (s : State) → first_state p tree cpus ≡ Ok s → IsKeptInLine slice s

@@ -1,7 +1,7 @@
 -- Where tasks may run, and whom a processor sees, are as the cases allow, and not otherwise.
 use Rattle.std.proofs.Common.{unwrap_or, ◌≡◌, ℕ, zero, suc, ◌<◌, ◌≤◌, Bool, true, false, not, ◌==◌, ◌||◌, nat_lt, ◌⊎◌, inl, inr, if◌then◌else◌, length, Option, Some, None, is_none, refl, sym, ap, ◌∙◌, arith}
 use Rattle.std.specs.Int.{bit_at}
-use Rattle.std.proofs.lemmas.Bool.{cases_eq, cases_lt, eq-eqb, ne_eqb}
+use Rattle.std.proofs.lemmas.Bool.{cases_eq, cases_lt, eq-eqb, ne_eqb, and_parts, and_from, false_from_ne_true}
 use Rattle.std.proofs.lemmas.Bool.Decides.{nat_tests}
 use Rattle.scx_dsq.specs.Queues.{QueueState, only, entry_of}
 use Rattle.scx_dsq.proofs.Among.{entries_long}
@@ -13,7 +13,7 @@ use Rattle.scx_sched_world.specs.Tasks.{seen_from, next_for}
 use Rattle.scx_sched.proofs.Fronts.{Equal, front_same}
 use Rattle.scx_sched.proofs.Seen.{entry_seen}
 use Rattle.scx_laws.specs.BoundTasks.{AreBound, IsAllowed, IsUnbound, IsInMask, IsFirstHome, LowestHome, NoHome, HasOneCpu, IsBoundToOne, IsOnlyCpu, AreSeenFrom, IsNextFor}
-use Rattle.scx_laws.proofs.Differing.{none_if_never, both_true, and_true, false_from, not_so}
+use Rattle.scx_laws.proofs.Differing.{none_if_never, not_so}
 
 -- ---- the lowest number for which a test holds
 
@@ -67,16 +67,16 @@ rules_are Plain e = absurd (cc)
 rules_are Linux e = refl
 
 bound_is : (w : WorldState) → binds w ≡ true → AreBound w
-bound_is w e = let x = both_true (are_linux w.rules) (nat_lt 0 (length w.tree.masks)) e in record { by_linux = rules_are w.rules x.0; some = grind (arith, nat_tests, x.1) }
+bound_is w e = let x = and_parts (are_linux w.rules) (nat_lt 0 (length w.tree.masks)) e in record { by_linux = rules_are w.rules x.0; some = grind (arith, nat_tests, x.1) }
 
 bound_of : (w : WorldState) → AreBound w → binds w ≡ true
-bound_of w h = let l : nat_lt 0 (length w.tree.masks) ≡ true = grind (arith, nat_tests, h.some) in and_true (are_linux w.rules) (nat_lt 0 (length w.tree.masks)) (ap (λ r. are_linux r) h.by_linux) l
+bound_of w h = let l : nat_lt 0 (length w.tree.masks) ≡ true = grind (arith, nat_tests, h.some) in and_from (are_linux w.rules) (nat_lt 0 (length w.tree.masks)) (ap (λ r. are_linux r) h.by_linux) l
 
 unbound_is : (w : WorldState) → binds w ≡ false → ¬ AreBound w
 unbound_is w e h = not_so (binds w) e (bound_of w h)
 
 unbound_of : (w : WorldState) → ¬ AreBound w → binds w ≡ false
-unbound_of w n = false_from (binds w) (λ e. n (bound_is w e))
+unbound_of w n = false_from_ne_true (binds w) (λ e. n (bound_is w e))
 
 in_mask : (w : WorldState) (t c : ℕ) → is_in_mask w.tree t c ≡ true → IsAllowed w t c
 in_mask w t c e = let h : bit_at (mask_of w.tree t) c ≡ 1 = grind (arith, nat_tests, e) in IsInMask h
@@ -106,7 +106,7 @@ pub outside_is : (w : WorldState) (t c : ℕ) → may_run w t c ≡ false → ¬
 outside_is w t c e h = not_so (may_run w t c) e (allowed_of w t c h)
 
 pub outside_of : (w : WorldState) (t c : ℕ) → ¬ IsAllowed w t c → may_run w t c ≡ false
-outside_of w t c n = false_from (may_run w t c) (λ e. n (allowed_is w t c e))
+outside_of w t c n = false_from_ne_true (may_run w t c) (λ e. n (allowed_is w t c e))
 
 -- ---- the first home of a task
 
@@ -131,13 +131,13 @@ pub only_home_of : (w : WorldState) (t c : ℕ) → IsFirstHome w t c → c ≡ 
 only_home_of w t c (LowestHome l a below) = go (binds w) refl (cases_lt 0 c)
   where
     go : (b : Bool) → binds w ≡ b → (0 < c) ⊎ (c ≤ 0) → c ≡ home_as b (lowest_cpu w (is_in_mask w.tree t))
-    go true e any = ap (λ o. home_as true o) (sym (lowest_from (length w.cpus) (is_in_mask w.tree t) c (record { within = l; passes = in_mask_from w t c e a; below = λ d m. false_from (is_in_mask w.tree t d) (λ y. below d m (in_mask w t d y)) })))
+    go true e any = ap (λ o. home_as true o) (sym (lowest_from (length w.cpus) (is_in_mask w.tree t) c (record { within = l; passes = in_mask_from w t c e a; below = λ d m. false_from_ne_true (is_in_mask w.tree t d) (λ y. below d m (in_mask w t d y)) })))
     go false e (inl m) = absurd (below 0 m (IsUnbound (unbound_is w e)))
     go false e (inr m) = omega (arith, m)
 only_home_of w t c (NoHome none z) = z ∙ go (binds w)
   where
     go : (b : Bool) → 0 ≡ home_as b (lowest_cpu w (is_in_mask w.tree t))
-    go true = ap (λ o. home_as true o) (sym (none_from (length w.cpus) (is_in_mask w.tree t) (λ d l. false_from (is_in_mask w.tree t d) (λ y. none d l (in_mask w t d y)))))
+    go true = ap (λ o. home_as true o) (sym (none_from (length w.cpus) (is_in_mask w.tree t) (λ d l. false_from_ne_true (is_in_mask w.tree t d) (λ y. none d l (in_mask w t d y)))))
     go false = refl
 
 -- ---- one processor alone
@@ -145,9 +145,9 @@ only_home_of w t c (NoHome none z) = z ∙ go (binds w)
 abbrev one_as : WorldState → ℕ → Bool → Bool
 one_as w t b = if b then is_none (lowest_cpu w (is_in_mask_but w t (first_home w t))) else length w.cpus == 1
 
-none_is : (o : Option ℕ) → is_none o ≡ true → o ≡ None
-none_is None e = refl
-none_is (Some c) e = absurd (cc)
+pub nobody_is : (o : Option ℕ) → is_none o ≡ true → o ≡ None
+nobody_is None e = refl
+nobody_is (Some c) e = absurd (cc)
 
 pub one_is : (w : WorldState) (t : ℕ) → has_one_cpu w t ≡ true → HasOneCpu w t
 one_is w t = go (binds w) refl
@@ -165,17 +165,17 @@ one_is w t = go (binds w) refl
             at : (c ≡ home) ⊎ (c ≡ home → ⊥) → c ≡ home
             at (inl k) = k
             at (inr k) =
-                absurd (not_so (is_in_mask_but w t home c) (none_below (length w.cpus) (is_in_mask_but w t home) (none_is (lowest_cpu w (is_in_mask_but w t home)) x) c l)
-                (and_true (is_in_mask w.tree t c) (not (c == home)) (in_mask_from w t c e a) (ap (λ b. not b) (ne_eqb c home k))))
+                absurd (not_so (is_in_mask_but w t home c) (none_below (length w.cpus) (is_in_mask_but w t home) (nobody_is (lowest_cpu w (is_in_mask_but w t home)) x) c l)
+                (and_from (is_in_mask w.tree t c) (not (c == home)) (in_mask_from w t c e a) (ap (λ b. not b) (ne_eqb c home k))))
 
 pub one_of : (w : WorldState) (t : ℕ) → HasOneCpu w t → has_one_cpu w t ≡ true
 one_of w t (IsOnlyCpu n k) = ap (λ b. one_as w t b) (unbound_of w n) ∙ eq-eqb (length w.cpus) 1 k
-one_of w t (IsBoundToOne h same) = ap (λ b. one_as w t b) (bound_of w h) ∙ ap (λ o. is_none o) (none_from (length w.cpus) (is_in_mask_but w t (first_home w t)) (λ d l. false_from (is_in_mask_but w t (first_home w t) d) (λ y. other d l y (is_home w t))))
+one_of w t (IsBoundToOne h same) = ap (λ b. one_as w t b) (bound_of w h) ∙ ap (λ o. is_none o) (none_from (length w.cpus) (is_in_mask_but w t (first_home w t)) (λ d l. false_from_ne_true (is_in_mask_but w t (first_home w t) d) (λ y. other d l y (is_home w t))))
   where
     other : (d : ℕ) → d < length w.cpus → is_in_mask_but w t (first_home w t) d ≡ true → IsFirstHome w t (first_home w t) → ⊥
-    other d l y (NoHome none z) = let x = both_true (is_in_mask w.tree t d) (not (d == first_home w t)) y in none d l (in_mask w t d x.0)
+    other d l y (NoHome none z) = let x = and_parts (is_in_mask w.tree t d) (not (d == first_home w t)) y in none d l (in_mask w t d x.0)
     other d l y (LowestHome m a below) =
-        let x = both_true (is_in_mask w.tree t d) (not (d == first_home w t)) y in
+        let x = and_parts (is_in_mask w.tree t d) (not (d == first_home w t)) y in
         let is : (d == first_home w t) ≡ true = eq-eqb d (first_home w t) (same d (first_home w t) l m (in_mask w t d x.0) a) in
         not_so (not (d == first_home w t)) (ap (λ b. not b) is) x.1
 
@@ -191,7 +191,7 @@ are_seen w c = go (binds w) refl
     go true e = record {
       tasks = entries_long (λ t. is_in_mask w.tree t c) 0 w.queues.entries;
       seen = λ t a. entry_seen (λ t. is_in_mask w.tree t c) w.queues t ∙ ap (λ b. if b then entry_of w.queues t else None) (in_mask_from w t c e a);
-      passed = λ t n. entry_seen (λ t. is_in_mask w.tree t c) w.queues t ∙ ap (λ b. if b then entry_of w.queues t else None) (false_from (is_in_mask w.tree t c) (λ y. n (in_mask w t c y)));
+      passed = λ t n. entry_seen (λ t. is_in_mask w.tree t c) w.queues t ∙ ap (λ b. if b then entry_of w.queues t else None) (false_from_ne_true (is_in_mask w.tree t c) (λ y. n (in_mask w t c y)));
     }
     go false e = record { tasks = refl; seen = λ t a. refl; passed = λ t n. absurd (n (IsUnbound (unbound_is w e))) }
 

@@ -1,9 +1,10 @@
 -- The wait of each task in the line of one CPU is bounded by the tasks ahead of it, each with a slice, and what is
 -- left of the slice of the task that runs. No step of the machine makes that more, and each tick makes it less.
 use Rattle.std.proofs.Common.{◌≡◌, ℕ, ◌+◌, ◌-◌, ◌*◌, max, ◌<◌, ◌≤◌, Bool, true, false, ◌==◌, ◌&&◌, not, ◌⊎◌, inl, inr, if◌then◌else◌, List, length, set, get_or, Option, Some, None, is_none, count_by, refl, sym, ap, ◌∙◌, subst, arith}
+use Rattle.std.proofs.lemmas.Option.{same_Some}
 use Rattle.std.specs.List.{list_all}
 use Rattle.std.proofs.Math.Nat.{mul-add, mul_comm}
-use Rattle.std.proofs.lemmas.Bool.{cases_eq, cases_lt, and_parts, eq-eqb, ne_eqb}
+use Rattle.std.proofs.lemmas.Bool.{cases_eq, cases_lt, and_parts, eq-eqb, ne_eqb, and_right}
 use Rattle.std.proofs.lemmas.List.{length-set, get_or-set_same, get_or-set_other, set_past}
 use Rattle.std.proofs.lemmas.List.Folds.{list_all_at}
 use Rattle.std.proofs.lemmas.List.Quantifiers.{position-Some}
@@ -46,7 +47,12 @@ pub record IsBounded (slice n m clock : ℕ) (tasks : List Task) (run : Option �
   pub most : (r : ℕ) → run ≡ Some r → (get_or tasks r no_task).slice ≤ max slice default_slice
   pub bound : (t : ℕ) (e : Entry) → entry_of s t ≡ Some e → e.queue ≡ 0 → time_since clock (get_or tasks t no_task).since + (ticks_of slice * (ahead_in s e + len_of s (local_on 0)) + left_of tasks run) ≤ m
 
-sorted_fifo : (r : Rank) → r ≡ Fifo → same_sort r Fifo ≡ true
+-- so it is of other records of the tasks, another bound and another time, where these fit
+pub bounded_so : (slice n m clock : ℕ) (tasks : List Task) (run : Option ℕ) (s : QueueState) (j now : ℕ) (others : List Task) → length others ≡ length tasks → ((u : ℕ) (e : Entry) → entry_of s u ≡ Some e → (get_or others u no_task).slice ≡ slice) → ((r : ℕ) → run ≡ Some r → (get_or others r no_task).slice ≤ max slice default_slice)
+    → ((t : ℕ) (e : Entry) → entry_of s t ≡ Some e → e.queue ≡ 0 → time_since now (get_or others t no_task).since + (ticks_of slice * (ahead_in s e + len_of s (local_on 0)) + left_of others run) ≤ j) → IsBounded slice n m clock tasks run s → IsBounded slice n j now others run s
+bounded_so slice n m clock tasks run s j now others same slices most bound h = record { even = h.even; many = same ∙ h.many; off = h.off; here = h.here; fifo = h.fifo; stamped = h.stamped; own = h.own; slices = slices; most = most; bound = bound }
+
+pub sorted_fifo : (r : Rank) → r ≡ Fifo → same_sort r Fifo ≡ true
 sorted_fifo r e = ap (λ k. same_sort k Fifo) e
 
 -- more times is no less
@@ -123,13 +129,13 @@ module _ (slice n m clock : ℕ) (tasks : List Task) where
   bounded_started s x p l at local h = record {
     even = gone.even;
     many = gone.many;
-    off = λ r runs. subst (λ k. (k < n) × (entry_of (without_task s x) k ≡ None)) (same x r runs) (l, get_or-set_same {A = Option Entry} s.entries x None None known);
+    off = λ r runs. subst (λ k. (k < n) × (entry_of (without_task s x) k ≡ None)) (same_Some x r runs) (l, get_or-set_same {A = Option Entry} s.entries x None None known);
     here = gone.here;
     fifo = gone.fifo;
     stamped = gone.stamped;
     own = gone.own;
     slices = gone.slices;
-    most = λ r runs. subst (λ k. (get_or tasks k no_task).slice ≤ max slice default_slice) (same x r runs) (omega (arith, h.slices x p at));
+    most = λ r runs. subst (λ k. (get_or tasks k no_task).slice ≤ max slice default_slice) (same_Some x r runs) (omega (arith, h.slices x p at));
     bound = λ t e is here.
         let had = left_had s x t e is in
         let a = ahead_in (without_task s x) e in
@@ -138,9 +144,6 @@ module _ (slice n m clock : ℕ) (tasks : List Task) where
         omega (arith, h.bound t e had here, less, times_suc (ticks_of slice) (a + len_of (without_task s x) (local_on 0)), ap ticks_of (h.slices x p at));
   }
     where
-      same : (a b : ℕ) → Some a ≡ Some b → a ≡ b
-      same a b e = cc
-
       known : x < length s.entries
       known = omega (arith, l, h.even)
 
@@ -166,18 +169,9 @@ module _ (slice n m clock : ℕ) (tasks : List Task) where
 
   -- a millisecond later
   pub bounded_later : (run : Option ℕ) (s : QueueState) → IsBounded slice n m clock tasks run s → IsBounded slice n (m + 1) (clock + 1) tasks run s
-  bounded_later run s h = record {
-    even = h.even;
-    many = h.many;
-    off = h.off;
-    here = h.here;
-    fifo = h.fifo;
-    stamped = h.stamped;
-    own = h.own;
-    slices = h.slices;
-    most = h.most;
-    bound = λ t e is here. omega (arith, h.bound t e is here, since_later (get_or tasks t no_task).since);
-  }
+  bounded_later run s h =
+      bounded_so slice n m clock tasks run s (m + 1) (clock + 1) tasks refl h.slices h.most
+      (λ t e is here. omega (arith, h.bound t e is here, since_later (get_or tasks t no_task).since)) h
     where
       since_later : (o : Option ℕ) → time_since (clock + 1) o ≤ time_since clock o + 1
       since_later None = omega arith
@@ -189,11 +183,8 @@ module _ (slice n m clock : ℕ) (tasks : List Task) where
 pushed_had : (s : QueueState) (q x u : ℕ) (e : Entry) → entry_of (after_push s q x Fifo) u ≡ Some e → (entry_of s u ≡ Some e) ⊎ ((u ≡ x) × (e ≡ next_entry s q Fifo))
 pushed_had s q x u e = go (push_refusal s q x Fifo)
   where
-    same : (a b : Entry) → Some a ≡ Some b → a ≡ b
-    same a b y = cc
-
     by : (u ≡ x) ⊎ (u ≡ x → ⊥) → (x < length s.entries) ⊎ (length s.entries ≤ x) → entry_of (with_place s q x Fifo) u ≡ Some e → (entry_of s u ≡ Some e) ⊎ ((u ≡ x) × (e ≡ next_entry s q Fifo))
-    by (inl y) (inl l) is = inr (y, same e (next_entry s q Fifo) (sym is ∙ (ap (λ k. entry_of (with_place s q x Fifo) k) y ∙ get_or-set_same {A = Option Entry} s.entries x (Some (next_entry s q Fifo)) None l)))
+    by (inl y) (inl l) is = inr (y, same_Some e (next_entry s q Fifo) (sym is ∙ (ap (λ k. entry_of (with_place s q x Fifo) k) y ∙ get_or-set_same {A = Option Entry} s.entries x (Some (next_entry s q Fifo)) None l)))
     by (inl y) (inr past) is = inl (sym (ap (λ xs. get_or {A = Option Entry} xs u None) (set_past {X = Option Entry} s.entries x (Some (next_entry s q Fifo)) past)) ∙ is)
     by (inr d) l is = inl (sym (get_or-set_other {A = Option Entry} s.entries x u (Some (next_entry s q Fifo)) None d) ∙ is)
 
@@ -228,7 +219,7 @@ own_pushed s q x stamped own u v a b is was same = by (pushed_had s q x u a is) 
     by (inr y) (inr z) = y.0 ∙ sym z.0
 
 -- an entry with the lower stamp comes before
-stamp_before : (a b : Entry) → a.rank ≡ Fifo → b.rank ≡ Fifo → a.stamp < b.stamp → is_before a b ≡ true
+pub stamp_before : (a b : Entry) → a.rank ≡ Fifo → b.rank ≡ Fifo → a.stamp < b.stamp → is_before a b ≡ true
 stamp_before a b fa fb l = before_turns a b (sorted_fifo a.rank fa) (sorted_fifo b.rank fb) (later_turn a.rank b.rank a.stamp b.stamp fb l)
 
 module _ (slice n m clock : ℕ) (tasks : List Task) (run : Option ℕ) (s : QueueState) (h : IsBounded slice n m clock tasks run s) where
@@ -318,18 +309,9 @@ ticks_most a slice l = omega (arith, l)
 module _ (slice n m clock : ℕ) where
   -- another record of a task that waits nowhere and doesn't run
   pub bounded_unseen : (tasks : List Task) (run : Option ℕ) (s : QueueState) (r : ℕ) (x : Task) → entry_of s r ≡ None → ((k : ℕ) → run ≡ Some k → k ≡ r → ⊥) → IsBounded slice n m clock tasks run s → IsBounded slice n m clock (set tasks r x) run s
-  bounded_unseen tasks run s r x none apart h = record {
-    even = h.even;
-    many = length-set tasks r x ∙ h.many;
-    off = h.off;
-    here = h.here;
-    fifo = h.fifo;
-    stamped = h.stamped;
-    own = h.own;
-    slices = λ u e is. ap (λ (k : Task). k.slice) (same u (waits u e is)) ∙ h.slices u e is;
-    most = λ k runs. subst (λ (y : Task). y.slice ≤ max slice default_slice) (sym (same k (apart k runs))) (h.most k runs);
-    bound = λ t e is here. subst (λ (y : Task). time_since clock y.since + (ticks_of slice * (ahead_in s e + len_of s (local_on 0)) + left_of (set tasks r x) run) ≤ m) (sym (same t (waits t e is))) (omega (arith, h.bound t e is here, left run apart));
-  }
+  bounded_unseen tasks run s r x none apart h =
+      bounded_so slice n m clock tasks run s m clock (set tasks r x) (length-set tasks r x) (λ u e is. ap (λ (k : Task). k.slice) (same u (waits u e is)) ∙ h.slices u e is) (λ k runs. subst (λ (y : Task). y.slice ≤ max slice default_slice) (sym (same k (apart k runs))) (h.most k runs))
+      (λ t e is here. subst (λ (y : Task). time_since clock y.since + (ticks_of slice * (ahead_in s e + len_of s (local_on 0)) + left_of (set tasks r x) run) ≤ m) (sym (same t (waits t e is))) (omega (arith, h.bound t e is here, left run apart))) h
     where
       same : (u : ℕ) → (u ≡ r → ⊥) → get_or (set tasks r x) u no_task ≡ get_or tasks u no_task
       same u other = get_or-set_other tasks r u x no_task other
@@ -380,11 +362,7 @@ module _ (slice n m clock : ℕ) where
       apart_there (Some e) = go (cases_eq e.queue 0)
         where
           go : (e.queue ≡ 0) ⊎ (e.queue ≡ 0 → ⊥) → ((e.queue == 0 && is_before e new) && e.queue == local_on 0) ≡ false
-          go (inl y) = ap (λ q. (q == 0 && is_before e new) && q == local_on 0) y ∙ and_false (is_before e new)
-            where
-              and_false : (b : Bool) → (b && false) ≡ false
-              and_false true = refl
-              and_false false = refl
+          go (inl y) = ap (λ q. (q == 0 && is_before e new) && q == local_on 0) y ∙ and_right (is_before e new) false refl
           go (inr y) = ap (λ b. (b && is_before e new) && e.queue == local_on 0) (ne_eqb e.queue 0 y)
 
       out : (k : ℕ) → entry_of s k ≡ None → (is_ahead 0 new (entry_of s k) ≡ false) × (is_in (local_on 0) (entry_of s k) ≡ false)
@@ -443,22 +421,10 @@ module _ (slice n m clock : ℕ) where
 
   -- the remaining slice is less by d
   pub bounded_ran : (j d : ℕ) (tasks : List Task) (s : QueueState) (r : ℕ) (x : Task) → x.slice ≤ max slice default_slice → ticks_of x.slice + d ≤ ticks_of (get_or tasks r no_task).slice → j + d ≡ m → IsBounded slice n m clock tasks (Some r) s → IsBounded slice n j clock (set tasks r x) (Some r) s
-  bounded_ran j d tasks s r x few less sum h = record {
-    even = h.even;
-    many = length-set tasks r x ∙ h.many;
-    off = h.off;
-    here = h.here;
-    fifo = h.fifo;
-    stamped = h.stamped;
-    own = h.own;
-    slices = λ u e is. ap (λ (k : Task). k.slice) (same u (waits u e is)) ∙ h.slices u e is;
-    most = λ k runs. subst (λ i. (get_or (set tasks r x) i no_task).slice ≤ max slice default_slice) (this r k runs) (subst (λ (y : Task). y.slice ≤ max slice default_slice) (sym now) few);
-    bound = λ t e is here. subst (λ (y : Task). time_since clock y.since + (ticks_of slice * (ahead_in s e + len_of s (local_on 0)) + left_of (set tasks r x) (Some r)) ≤ j) (sym (same t (waits t e is))) (omega (arith, h.bound t e is here, less, sum, ap (λ (y : Task). ticks_of y.slice) now));
-  }
+  bounded_ran j d tasks s r x few less sum h =
+      bounded_so slice n m clock tasks (Some r) s j clock (set tasks r x) (length-set tasks r x) (λ u e is. ap (λ (k : Task). k.slice) (same u (waits u e is)) ∙ h.slices u e is) (λ k runs. subst (λ i. (get_or (set tasks r x) i no_task).slice ≤ max slice default_slice) (same_Some r k runs) (subst (λ (y : Task). y.slice ≤ max slice default_slice) (sym now) few))
+      (λ t e is here. subst (λ (y : Task). time_since clock y.since + (ticks_of slice * (ahead_in s e + len_of s (local_on 0)) + left_of (set tasks r x) (Some r)) ≤ j) (sym (same t (waits t e is))) (omega (arith, h.bound t e is here, less, sum, ap (λ (y : Task). ticks_of y.slice) now))) h
     where
-      this : (a b : ℕ) → Some a ≡ Some b → a ≡ b
-      this a b e = cc
-
       runs : (r < n) × (entry_of s r ≡ None)
       runs = h.off r refl
 
@@ -473,22 +439,10 @@ module _ (slice n m clock : ℕ) where
 
   -- where no task waits, a task that keeps the processor may get a slice
   pub bounded_alone : (tasks : List Task) (s : QueueState) (r : ℕ) (x : Task) → len_of s 0 ≡ 0 → len_of s (local_on 0) ≡ 0 → x.slice ≤ max slice default_slice → IsBounded slice n m clock tasks (Some r) s → IsBounded slice n m clock (set tasks r x) (Some r) s
-  bounded_alone tasks s r x empty none few h = record {
-    even = h.even;
-    many = length-set tasks r x ∙ h.many;
-    off = h.off;
-    here = h.here;
-    fifo = h.fifo;
-    stamped = h.stamped;
-    own = h.own;
-    slices = λ u e is. absurd (none_there u e is (h.here u e is));
-    most = λ k runs. subst (λ i. (get_or (set tasks r x) i no_task).slice ≤ max slice default_slice) (this r k runs) (subst (λ (y : Task). y.slice ≤ max slice default_slice) (sym now) few);
-    bound = λ t e is here. absurd (none_there t e is (h.here t e is));
-  }
+  bounded_alone tasks s r x empty none few h =
+      bounded_so slice n m clock tasks (Some r) s m clock (set tasks r x) (length-set tasks r x) (λ u e is. absurd (none_there u e is (h.here u e is))) (λ k runs. subst (λ i. (get_or (set tasks r x) i no_task).slice ≤ max slice default_slice) (same_Some r k runs) (subst (λ (y : Task). y.slice ≤ max slice default_slice) (sym now) few))
+      (λ t e is here. absurd (none_there t e is (h.here t e is))) h
     where
-      this : (a b : ℕ) → Some a ≡ Some b → a ≡ b
-      this a b e = cc
-
       now : get_or (set tasks r x) r no_task ≡ x
       now = get_or-set_same tasks r x no_task (omega (arith, (h.off r refl).0, h.many))
 

@@ -24,9 +24,6 @@ use Rattle.scx_laws.specs.Lines.{to_idle, asked_for}
 pub chosen_there : (w : WorldState) (t : ℕ) → (task_at w t).prev_cpu < length w.cpus → default_choice w t < length w.cpus
 chosen_there w t home = tracked w.tracks_idle
   where
-    same : (a b : ℕ) → Some a ≡ Some b → a ≡ b
-    same a b x = cc
-
     lowest : (o : Option ℕ) → lowest_cpu w (is_free_for w t) ≡ o → unwrap_or o (task_at w t).prev_cpu < length w.cpus
     lowest None e = home
     lowest (Some c) e = lowest_is_there (length w.cpus) (is_free_for w t) c e

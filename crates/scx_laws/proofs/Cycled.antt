@@ -1,8 +1,10 @@
 -- A cycle of the only processor under a policy of one line: it takes the front of the line, and the task before goes to
 -- the end; where no task waits, that one goes on with a slice.
 use Rattle.std.proofs.Common.{◌≡◌, ℕ, zero, suc, ◌<◌, ◌≤◌, Bool, true, false, ◌==◌, ◌&&◌, not, ◌⊎◌, inl, inr, if◌then◌else◌, List, [], ◌∷◌, length, get_or, Option, Some, None, is_some, is_none, option_map, count_by, refl, sym, ap, ◌∙◌, subst, arith, nat_lt}
+use Rattle.scx_laws.proofs.Differing.{zero_not}
+use Rattle.std.proofs.lemmas.Option.{same_Some}
 use Rattle.std.specs.List.{list_any}
-use Rattle.std.proofs.lemmas.Bool.{ne_eqb}
+use Rattle.std.proofs.lemmas.Bool.{ne_eqb, and_right}
 use Rattle.std.proofs.lemmas.List.{length-set, get_or-set_same}
 use Rattle.std.proofs.lemmas.List.Sums.{sum_by-cons}
 use Rattle.scx_dsq.specs.declared.entries.Entry.{Entry}
@@ -13,6 +15,7 @@ use Rattle.scx_dsq.specs.Laws.{one_if}
 use Rattle.scx_dsq.specs.Queues.{QueueState, exists, entry_of, is_in, len_of, front_of}
 use Rattle.scx_dsq.specs.Calls.{clashes, push_refusal, next_entry, with_task as with_place, without, without_task, after_push, after_remove}
 use Rattle.scx_dsq.proofs.Facts.{ids_pushed, ids_without, ids_removed}
+use Rattle.scx_isa_semantics.specs.declared.callbacks.Callback.{Callback}
 use Rattle.scx_isa_semantics.specs.declared.callbacks.Callback.TheVariants as callback
 use Rattle.scx_isa_semantics.specs.declared.rules.Rules.{Rules}
 use Rattle.scx_vm.specs.declared.arguments.Args.{Args}
@@ -31,10 +34,10 @@ use Rattle.scx_sched_world.proofs.Empty.{empty_next}
 use Rattle.scx_sched_world.proofs.Fronts.{front_in, unbound_next}
 use Rattle.scx_sched_policy.specs.Policy.{program_of}
 use Rattle.scx_sched_machine.specs.Steps.{State, Stepped, with_world, stays, one_after_other, is_by_linux}
-use Rattle.scx_sched_machine.specs.Callbacks.{call_back, noted_by, one_task, task_and_number, cpu_and_task}
+use Rattle.scx_sched_machine.specs.Callbacks.{call_back, noted_by, cpu_and_task}
 use Rattle.scx_sched_machine.specs.Put.{enters, put}
 use Rattle.scx_sched_machine.specs.Parking.{supply}
-use Rattle.scx_sched_machine.specs.Cycle.{has_local, keeps_slice, supply_unless_kept, told_of, dispatch_called, after_dispatch, asks_again, tries, stopping_called, after_stopping, after_running, put_back, leave, started_if, start, kept, rest, builtin_cycle, start_or_cycle, picked, refilled, start_picked_or_cycle, makes_way, pick, pick_or_rest, keep_or_pick, conclude, give_up, ask, seek, look, concluded, cycle}
+use Rattle.scx_sched_machine.specs.Cycle.{has_local, keeps_slice, supply_unless_kept, told_of, dispatch_called, after_dispatch, asks_again, tries, put_back, leave, switched, started_if, start, kept, rest, builtin_cycle, start_or_cycle, picked, refilled, start_picked_or_cycle, makes_way, pick, pick_or_rest, keep_or_pick, conclude, give_up, ask, seek, look, concluded, cycle}
 use Rattle.scx_sched_machine.proofs.Choices.{keeps_if}
 use Rattle.scx_sched_machine.proofs.Free.{supply_nobody}
 use Rattle.scx_sched.proofs.Firsts.{no_front_is_empty}
@@ -42,7 +45,8 @@ use Rattle.scx_sched.proofs.Lengths.{len_set}
 use Rattle.scx_sched.proofs.Sound.{place_known}
 use Rattle.scx_laws.specs.Bounds.{longest_wait}
 use Rattle.scx_laws.proofs.Plain.{homed_plain, switched_plain, told_plain, kept_plain, busy_plain, picked_plain, give_up_plain, cycling_plain, concluded_plain}
-use Rattle.scx_laws.proofs.InLine.{IsInLine, IsKeptInLine, line_end, world_plain, acts_not, nothing_called, line_at, put_lined, dispatch_lined, keeps_line}
+use Rattle.scx_laws.proofs.Walking.{IsSwitch, Silent, Called, by_stop, by_start}
+use Rattle.scx_laws.proofs.InLine.{IsInLine, IsKeptInLine, line_end, world_plain, nothing_told, line_at, put_lined, dispatch_lined, keeps_line}
 use Rattle.scx_laws.proofs.Overtaking.{known_there}
 use Rattle.scx_laws.proofs.Bounding.{IsBounded, bounded_left, len_gone}
 use Rattle.scx_laws.proofs.Turning.{IsTurning, turning_dispatched, turning_started, turning_stopped, turning_put, turning_kept}
@@ -59,13 +63,6 @@ nonzero n l = ne_eqb n 0 (λ e. omega (arith, e, l))
 not_again : (a b c : Bool) → (b && c) ≡ false → (a && (b && c)) ≡ false
 not_again true b c e = e
 not_again false b c e = refl
-
-pub and_false : (b : Bool) → (b && false) ≡ false
-and_false true = refl
-and_false false = refl
-
-pub same_task : (a b : ℕ) → Some a ≡ Some b → a ≡ b
-same_task a b e = cc
 
 -- ---- queues
 
@@ -209,7 +206,7 @@ module _ (slice n m : ℕ) where
       left = bounded_left slice n m s.world.clock s.world.tasks (running s.world 0) s.world.queues x h.turning.bounded
 
       sorted : (p : Entry) → p.rank ≡ Fifo → (is_in (local_on 0) (Some p) && not (same_sort p.rank Fifo)) ≡ false
-      sorted p e = ap (λ r. is_in (local_on 0) (Some p) && not (same_sort r Fifo)) e ∙ and_false (is_in (local_on 0) (Some p))
+      sorted p e = ap (λ r. is_in (local_on 0) (Some p) && not (same_sort r Fifo)) e ∙ and_right (is_in (local_on 0) (Some p)) false refl
 
       go : (i : ℕ) (o : Option Entry) → entry_of (without_task s.world.queues x) i ≡ o → clashes (local_on 0) Fifo o ≡ false
       go i None e = refl
@@ -237,7 +234,7 @@ module _ (slice n m : ℕ) where
       go : (o : Option Entry) → entry_of q x ≡ o → option_map (λ (e : Entry). e.queue) o ≡ Some 0 → len_of (after_push (after_remove q x) (local_on 0) x Fifo) (local_on 0) ≡ 1
       go None is at = absurd (cc)
       go (Some e) is at =
-          let here : e.queue ≡ 0 = same_task e.queue 0 at in
+          let here : e.queue ≡ 0 = same_Some e.queue 0 at in
           let was : one_if (is_in (local_on 0) (entry_of q x)) ≡ 0 = ap (λ (o : Option Entry). one_if (is_in (local_on 0) o)) is ∙ ap (λ k. one_if (k == local_on 0)) here in
           let left : len_of one (local_on 0) ≡ 0 = omega (arith, len_set q (local_on 0) x None known, was, none) in
           let within : x < length one.entries = omega (arith, known, length-set {A = Option Entry} q.entries x None) in
@@ -253,22 +250,33 @@ module _ (slice n m : ℕ) where
     pub idle : running v.world 0 ≡ None
     pub local : len_of v.world.queues (local_on 0) ≡ len_of s.world.queues (local_on 0)
 
-  pub left_is : (s : State) (p : Option ℕ) → longest_wait n slice ≤ m → running s.world 0 ≡ p → IsGoing slice n m s → IsLeft s (leave s 0 p).state
-  unfolding leave after_stopping put_back
-  left_is s None longest runs h = record { going = h; idle = runs; local = refl }
-  left_is s (Some r) longest runs h = subst (IsLeft s) (sym is) (record { going = going_in m stopped final line.1 turning free own (going_in m s stopped.world stopped-line stopped-turning h.free h.own h); idle = rests; local = as_long })
+  -- the task that runs is off the processor, and nothing was done in the callback
+  abbrev pub off_cpu : State → ℕ → Callback → State
+  off_cpu s r b = with_world s (at_callback (after_stop s.world 0 r) b r 0)
+
+  pub off_idle : (s : State) (r : ℕ) → IsGoing slice n m s → running (after_stop s.world 0 r) 0 ≡ None
+  off_idle s r h = get_or-set_same {A = Option ℕ} s.world.cpus 0 None None (omega (arith, h.turning.one))
+
+  pub going_off : (s : State) (r : ℕ) (b : Callback) → running s.world 0 ≡ Some r → IsGoing slice n m s → IsGoing slice n m (off_cpu s r b)
+  going_off s r b runs h =
+      let y = turning_stopped slice n m s.world r runs h.turning in
+      going_in m s (off_cpu s r b).world (line_at (after_stop s.world 0 r) b r 0 ((keeps_line slice).stopped s 0 r h.lined).1) (record { force = y.force; one = y.one; bounded = y.bounded }) h.free h.own h
+
+  -- so it is once a task has left the processor
+  pub off_is : (P : State → Type 0) (s : State) (r : ℕ) → IsGoing slice n m s → ((b : Callback) → P (off_cpu s r b)) → (v : Stepped) → IsSwitch (with_world s (after_stop s.world 0 r)) r 0 (after_charge (after_stop s.world 0 r) r) v → P v.state
+  off_is P s r h each _ (Silent out) = let bad : false ≡ true = sym (ap (λ (o : Option Eject). is_some o) h.turning.force) ∙ out in absurd (cc)
+  off_is P s r h each _ (Called b a is) = subst P (sym (nothing_told slice (with_world s (after_stop s.world 0 r)) b a r 0 is h.lined.0)) (each b)
+
+  -- and then it is put
+  left_from : (s : State) (r : ℕ) (b : Callback) → longest_wait n slice ≤ m → running s.world 0 ≡ Some r → IsGoing slice n m s → IsLeft s (put_back (off_cpu s r b) 0 r).state
+  unfolding put_back
+  left_from s r b longest runs h = subst (IsLeft s) (sym is) (record { going = going_in m stopped final line.1 turning free own stopped-going; idle = rests; local = as_long })
     where
-      off : State
-      off = with_world s (after_stop s.world 0 r)
-
       stopped : State
-      stopped = with_world off (at_callback off.world callback.Stopping r 0)
+      stopped = off_cpu s r b
 
-      stopped-line : IsInLine stopped.world
-      stopped-line = line_at off.world callback.Stopping r 0 ((keeps_line slice).stopped s 0 r h.lined).1
-
-      stopped-turning : IsTurning slice n m stopped.world
-      stopped-turning = let y = turning_stopped slice n m s.world r runs h.turning in record { force = y.force; one = y.one; bounded = y.bounded }
+      stopped-going : IsGoing slice n m stopped
+      stopped-going = going_off s r b runs h
 
       entered : WorldState
       entered = quiet (with_insert (at_callback stopped.world callback.Enqueue r 0) (line_end slice))
@@ -277,20 +285,16 @@ module _ (slice n m : ℕ) where
       final = after_enter entered r (line_end slice)
 
       put_is : (put stopped r 0 0).state ≡ with_world stopped final
-      put_is = put_lined slice stopped r 0 0 refl h.turning.force (h.lined.0, stopped-line)
+      put_is = put_lined slice stopped r 0 0 refl h.turning.force stopped-going.lined
 
-      is : (leave s 0 (Some r)).state ≡ with_world stopped final
-      is =
-          ap (λ (v : State). (put_back v 0 r).state)
-          (ap (λ b. (if b then stays (with_world off (after_charge off.world r)) else stopping_called off 0 r 1).state) (ap (λ (o : Option Eject). is_some o) h.turning.force)
-          ∙ nothing_called off callback.Stopping (task_and_number r 1) r 0 (acts_not off callback.Stopping h.lined.0.stops) refl)
-          ∙ (ap (λ b. (if b then enters stopped r (to_front 0) else put stopped r 0 0).state) (kept_plain stopped (world_plain stopped.world stopped-line.rules) (Some r)) ∙ put_is)
+      is : (put_back stopped 0 r).state ≡ with_world stopped final
+      is = ap (λ b. (if b then enters stopped r (to_front 0) else put stopped r 0 0).state) (kept_plain stopped (plain_going stopped stopped-going) (Some r)) ∙ put_is
 
       line : IsKeptInLine slice (with_world stopped final)
-      line = subst (IsKeptInLine slice) put_is ((keeps_line slice).puts stopped r 0 0 refl (h.lined.0, stopped-line))
+      line = subst (IsKeptInLine slice) put_is ((keeps_line slice).puts stopped r 0 0 refl stopped-going.lined)
 
       rested : running entered 0 ≡ None
-      rested = get_or-set_same {A = Option ℕ} s.world.cpus 0 None None (omega (arith, h.turning.one))
+      rested = off_idle s r h
 
       waits : (r < n) × (entry_of s.world.queues r ≡ None)
       waits = h.turning.bounded.off r runs
@@ -299,7 +303,7 @@ module _ (slice n m : ℕ) where
       now = ap (λ (x : Task). x.since) (get_or-set_same s.world.tasks r _ no_task (omega (arith, waits.0, h.turning.bounded.many)))
 
       turning : IsTurning slice n m final
-      turning = turning_put slice n m entered r (nonzero slice h.some) longest waits.1 (λ k e y. let bad : None ≡ Some k = sym rested ∙ e in absurd (cc)) waits.0 now (record { force = stopped-turning.force; one = stopped-turning.one; bounded = stopped-turning.bounded })
+      turning = turning_put slice n m entered r (nonzero slice h.some) longest waits.1 (λ k e y. let bad : None ≡ Some k = sym rested ∙ e in absurd (cc)) waits.0 now (let y = stopped-going.turning in record { force = y.force; one = y.one; bounded = y.bounded })
 
       free : has_quota final.tree.groups ≡ false
       free = keeps_if (λ (v : WorldState). has_quota v.tree.groups ≡ false) (nat_lt r (length entered.tasks)) _ entered h.free h.free
@@ -313,25 +317,24 @@ module _ (slice n m : ℕ) where
       as_long : len_of final.queues (local_on 0) ≡ len_of s.world.queues (local_on 0)
       as_long = keeps_if (λ (v : WorldState). len_of v.queues (local_on 0) ≡ len_of s.world.queues (local_on 0)) (nat_lt r (length entered.tasks)) _ entered (len_other s.world.queues 0 (local_on 0) r refl waits.1 (omega (arith, waits.0, h.turning.bounded.even))) refl
 
+  pub left_is : (s : State) (p : Option ℕ) → longest_wait n slice ≤ m → running s.world 0 ≡ p → IsGoing slice n m s → IsLeft s (leave s 0 p).state
+  unfolding leave
+  left_is s None longest runs h = record { going = h; idle = runs; local = refl }
+  left_is s (Some r) longest runs h = by_stop (λ (v : Stepped). IsLeft s (put_back v.state 0 r).state) (with_world s (after_stop s.world 0 r)) 0 r 1 (off_is (λ (v : State). IsLeft s (put_back v 0 r).state) s r h (λ b. left_from s r b longest runs h))
+
   -- ---- the front of the local queue runs
 
   pub started_works : (s : State) → IsGoing slice n m s → running s.world 0 ≡ None → len_of s.world.queues (local_on 0) ≡ 1 → IsAtWork slice n m (start s 0).state
-  unfolding start after_running
+  unfolding start
   started_works s h idle one = go (front_of s.world.queues (local_on 0)) refl
     where
       runs_now : (x : ℕ) (e : Entry) → front_of s.world.queues (local_on 0) ≡ Some x → entry_of s.world.queues x ≡ Some e → e.queue ≡ local_on 0 → IsAtWork slice n m (started_if (Some x) s 0).state
-      runs_now x e front is at = subst (IsAtWork slice n m) (sym state_is) (record {
-        going = going_in m u final (line_at u.world callback.Running x 0 u-line) (record { force = turning.force; one = turning.one; bounded = turning.bounded }) h.free own (going_in m s u.world u-line turning h.free own h);
-        none = gone;
-        busy = λ k y. subst (λ i. 0 < (task_at final i).slice) (same_task x k (sym runs ∙ y)) whole;
-        idle = λ y. let bad : Some x ≡ None = sym runs ∙ y in absurd (cc);
-      })
+      runs_now x e front is at =
+          by_start (λ (r : Stepped). IsAtWork slice n m r.state) (switched u x) 0 x
+          (subst (λ (v : State). (r : Stepped) → IsSwitch v x 0 (after_catch_up v.world x) r → IsAtWork slice n m r.state) (sym (switched_plain u (world_plain u.world u-line.rules) x)) told)
         where
           u : State
           u = with_world s (started_at (Some x) s.world 0)
-
-          final : WorldState
-          final = at_callback u.world callback.Running x 0
 
           u-line : IsInLine u.world
           u-line = ((keeps_line slice).started s 0 x front h.lined).1
@@ -342,29 +345,35 @@ module _ (slice n m : ℕ) where
           own : exists u.world.queues (local_on 0) ≡ true
           own = still_there s.world.queues u.world.queues (local_on 0) (ids_without s.world.queues (front_of s.world.queues (local_on 0))) h.own
 
-          state_is : (started_if (Some x) s 0).state ≡ with_world u final
-          state_is =
-              ap (λ (v : State). (after_running v 0 x).state) (switched_plain u (world_plain u.world u-line.rules) x)
-              ∙ (ap (λ b. (if b then stays (with_world u (after_catch_up u.world x)) else call_back u callback.Running (one_task x) x 0).state) (ap (λ (o : Option Eject). is_some o) h.turning.force)
-              ∙ nothing_called u callback.Running (one_task x) x 0 (acts_not u callback.Running h.lined.0.runs) refl)
-
-          runs : running final 0 ≡ Some x
+          runs : running u.world 0 ≡ Some x
           runs = get_or-set_same {A = Option ℕ} s.world.cpus 0 (Some x) None (omega (arith, h.turning.one))
 
           known : x < length s.world.queues.entries
           known = known_there s.world.queues x e is
 
-          gone : len_of final.queues (local_on 0) ≡ 0
+          gone : len_of u.world.queues (local_on 0) ≡ 0
           gone = ap (λ o. len_of (without s.world.queues o) (local_on 0)) front ∙ omega (arith, len_gone s.world.queues x (local_on 0) e known is at, one)
 
-          whole : 0 < (task_at final x).slice
+          whole : 0 < (task_at u.world x).slice
           whole =
-              let y : (task_at final x).slice ≡ (task_at s.world x).slice = ap (λ (t : Task). t.slice) (get_or-set_same s.world.tasks x _ no_task (omega (arith, known, h.turning.bounded.even, h.turning.bounded.many))) in
+              let y : (task_at u.world x).slice ≡ (task_at s.world x).slice = ap (λ (t : Task). t.slice) (get_or-set_same s.world.tasks x _ no_task (omega (arith, known, h.turning.bounded.even, h.turning.bounded.many))) in
               omega (arith, y, h.turning.bounded.slices x e is, h.some)
+
+          works : (b : Callback) → IsAtWork slice n m (with_world u (at_callback u.world b x 0))
+          works b = record {
+            going = going_in m u (at_callback u.world b x 0) (line_at u.world b x 0 u-line) (record { force = turning.force; one = turning.one; bounded = turning.bounded }) h.free own (going_in m s u.world u-line turning h.free own h);
+            none = gone;
+            busy = λ k y. subst (λ i. 0 < (task_at u.world i).slice) (same_Some x k (sym runs ∙ y)) whole;
+            idle = λ y. let bad : Some x ≡ None = sym runs ∙ y in absurd (cc);
+          }
+
+          told : (v : Stepped) → IsSwitch u x 0 (after_catch_up u.world x) v → IsAtWork slice n m v.state
+          told _ (Silent out) = let bad : false ≡ true = sym (ap (λ (o : Option Eject). is_some o) h.turning.force) ∙ out in absurd (cc)
+          told _ (Called b a y) = subst (IsAtWork slice n m) (sym (nothing_told slice u b a x 0 y h.lined.0)) (works b)
 
       at_front : (x : ℕ) → front_of s.world.queues (local_on 0) ≡ Some x → (o : Option Entry) → entry_of s.world.queues x ≡ o → option_map (λ (e : Entry). e.queue) o ≡ Some (local_on 0) → IsAtWork slice n m (started_if (Some x) s 0).state
       at_front x front None is at = absurd (cc)
-      at_front x front (Some e) is at = runs_now x e front is (same_task e.queue (local_on 0) at)
+      at_front x front (Some e) is at = runs_now x e front is (same_Some e.queue (local_on 0) at)
 
       go : (o : Option ℕ) → front_of s.world.queues (local_on 0) ≡ o → IsAtWork slice n m (started_if o s 0).state
       go None f = absurd (omega (arith, one, no_front_is_empty s.world.queues (local_on 0) f))
@@ -374,9 +383,6 @@ module _ (slice n m : ℕ) where
 
   some_there : (k : ℕ) → k ≡ 1 → not (k == 0) ≡ true
   some_there k e = ap (λ i. not (i == 0)) e
-
-  none_there : (k : ℕ) → k ≡ 0 → not (k == 0) ≡ false
-  none_there k e = ap (λ i. not (i == 0)) e
 
   pick_works : (s : State) (p : Option ℕ) (ran : Bool) → longest_wait n slice ≤ m → running s.world 0 ≡ p → IsGoing slice n m s → len_of s.world.queues (local_on 0) ≡ 1 → IsAtWork slice n m (pick s 0 p ran).state
   unfolding pick makes_way start_or_cycle
@@ -408,7 +414,7 @@ module _ (slice n m : ℕ) where
   rest_works s (Some r) ran runs h empty none = subst (IsAtWork slice n m) (sym (switched_plain u (world_plain u.world h.lined.1.rules) r)) (record {
     going = going_in m s u.world ((keeps_line slice).kept s (Some r) h.lined).1 (turning_kept slice n m s.world (Some r) runs empty none h.turning) h.free h.own h;
     none = none;
-    busy = λ k e. subst (λ i. 0 < (task_at u.world i).slice) (same_task r k (sym runs ∙ e)) (subst (λ (x : Task). 0 < x.slice) (sym (get_or-set_same s.world.tasks r (with_new_slice (task_at s.world r)) no_task (omega (arith, (h.turning.bounded.off r runs).0, h.turning.bounded.many)))) (some_new (task_at s.world r)));
+    busy = λ k e. subst (λ i. 0 < (task_at u.world i).slice) (same_Some r k (sym runs ∙ e)) (subst (λ (x : Task). 0 < x.slice) (sym (get_or-set_same s.world.tasks r (with_new_slice (task_at s.world r)) no_task (omega (arith, (h.turning.bounded.off r runs).0, h.turning.bounded.many)))) (some_new (task_at s.world r)));
     idle = λ e. empty;
   })
     where
@@ -431,7 +437,7 @@ module _ (slice n m : ℕ) where
 
   again : (s v : State) (p : Option ℕ) → Brings s v → asks_again v 0 p ≡ false
   again s v p (Brought one) = not_again (not (keeps_slice v p)) (local_len v.world 0 == 0) v.world.call.has_moved (ap (λ k. k == 0 && v.world.call.has_moved) one)
-  again s v p (Vain none empty own) = not_again (not (keeps_slice v p)) (local_len v.world 0 == 0) v.world.call.has_moved (ap (λ b. (local_len v.world 0 == 0) && b) none ∙ and_false (local_len v.world 0 == 0))
+  again s v p (Vain none empty own) = not_again (not (keeps_slice v p)) (local_len v.world 0 == 0) v.world.call.has_moved (ap (λ b. (local_len v.world 0 == 0) && b) none ∙ and_right (local_len v.world 0 == 0) false refl)
 
   running_brought : (s : State) (o : Option ℕ) → IsGoing slice n m s → running (brought_by s o).world 0 ≡ running s.world 0
   running_brought s None h = refl
@@ -448,7 +454,7 @@ module _ (slice n m : ℕ) where
   pick_or_rest_works : (s v : State) (p : Option ℕ) (ran : Bool) → longest_wait n slice ≤ m → running v.world 0 ≡ p → IsGoing slice n m v → Brings s v → IsAtWork slice n m (pick_or_rest v 0 p ran).state
   unfolding pick_or_rest
   pick_or_rest_works s v p ran longest runs h (Brought one) = subst (λ b. IsAtWork slice n m (if b then pick v 0 p ran else rest v 0 p ran).state) (sym (some_there (local_len v.world 0) one)) (pick_works v p ran longest runs h one)
-  pick_or_rest_works s v p ran longest runs h (Vain moved empty none) = subst (λ b. IsAtWork slice n m (if b then pick v 0 p ran else rest v 0 p ran).state) (sym (none_there (local_len v.world 0) none)) (rest_works v p ran runs h empty none)
+  pick_or_rest_works s v p ran longest runs h (Vain moved empty none) = subst (λ b. IsAtWork slice n m (if b then pick v 0 p ran else rest v 0 p ran).state) (sym (zero_not (local_len v.world 0) none)) (rest_works v p ran runs h empty none)
 
   conclude_works : (s v : State) (p : Option ℕ) (ran : Bool) → longest_wait n slice ≤ m → running v.world 0 ≡ p → IsGoing slice n m v → Brings s v → IsAtWork slice n m (conclude v 0 p ran).state
   unfolding conclude keep_or_pick
@@ -469,7 +475,7 @@ module _ (slice n m : ℕ) where
   look_works s p ran longest runs h none =
       subst (λ b. IsAtWork slice n m (if b then builtin_cycle s 0 p ran else seek s 0 p ran).state) (sym (ap (λ (o : Option Eject). is_some o) h.turning.force))
       (subst (λ (f : Stepped). IsAtWork slice n m (one_after_other f (if has_local f.state 0 then pick f.state 0 p ran else ask f.state 0 p ran)).state) (sym (supply_same s h))
-      (subst (λ b. IsAtWork slice n m (if b then pick s 0 p ran else ask s 0 p ran).state) (sym (none_there (local_len s.world 0) none)) (ask_works s p ran longest runs h none)))
+      (subst (λ b. IsAtWork slice n m (if b then pick s 0 p ran else ask s 0 p ran).state) (sym (zero_not (local_len s.world 0) none)) (ask_works s p ran longest runs h none)))
 
   pub cycle_works : (s : State) (p : Option ℕ) (ran : Bool) → longest_wait n slice ≤ m → running s.world 0 ≡ p → IsGoing slice n m s → len_of s.world.queues (local_on 0) ≡ 0 → IsBetween slice n m (cycle s 0 p ran).state
   unfolding cycle

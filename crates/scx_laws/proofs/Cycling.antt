@@ -1,7 +1,9 @@
 -- A cycle as it is computed is allowed, and no other is.
-use Rattle.std.proofs.Common.{◌≡◌, ℕ, zero, suc, ◌<◌, ◌≤◌, cond, Bool, true, false, not, ◌==◌, ◌&&◌, nat_lt, ◌⊎◌, inl, inr, if◌then◌else◌, [], ◌∷◌, Option, Some, None, is_some, is_none, unwrap_or, refl, sym, ◌∙◌, ap, subst, arith}
+use Rattle.std.proofs.Common.{◌≡◌, ℕ, zero, suc, ◌<◌, ◌≤◌, cond, Bool, true, false, not, ◌==◌, ◌&&◌, nat_lt, ◌⊎◌, inl, inr, if◌then◌else◌, [], ◌∷◌, Option, Some, None, is_some, is_none, refl, sym, ◌∙◌, ap, subst, arith}
+use Rattle.scx_sched_machine.proofs.Leaving.{then_stays}
+use Rattle.std.proofs.lemmas.Option.{same_Some}
 use Rattle.std.proofs.lemmas.Bool.Decides.{nat_tests}
-use Rattle.std.proofs.lemmas.Bool.{cases_eq, cases_lt, eq-eqb, ne_eqb}
+use Rattle.std.proofs.lemmas.Bool.{cases_eq, cases_lt, eq-eqb, ne_eqb, and_parts, and_from, false_from_ne_true}
 use Rattle.scx_dsq.specs.Queues.{len_of, front_of, queue_of, entry_of}
 use Rattle.scx_dsq.specs.Calls.{after_push, after_remove}
 use Rattle.scx_dsq.specs.declared.entries.Rank.TheVariants.{Fifo}
@@ -11,11 +13,11 @@ use Rattle.scx_sched_world.specs.declared.call.Insert.{Insert}
 use Rattle.scx_sched_world.specs.declared.eject.Eject.{Eject}
 use Rattle.scx_sched_world.specs.declared.notes.What.TheVariants as note
 use Rattle.scx_sched_world.specs.Ids.{global, builtin_queue, parked_queue, local_on}
-use Rattle.scx_sched_world.specs.World.{WorldState, is_throttled, with_queues, with_cycling, out_of_cycle, running, note_now}
+use Rattle.scx_sched_world.specs.World.{WorldState, is_throttled, with_queues, with_switch, with_cycling, out_of_cycle, running, note_now}
 use Rattle.scx_sched_world.specs.Tasks.{local_len, next_for, brought, to_front, homed, after_keep}
 use Rattle.scx_sched_world.specs.Ejecting.{put_builtin, after_catch_up, after_charge}
 use Rattle.scx_sched_machine.specs.Steps.{State, Stepped, with_world, stays, after, one_after_other, is_by_linux}
-use Rattle.scx_sched_machine.specs.Callbacks.{call_back, call_by_linux, one_task, two_numbers}
+use Rattle.scx_sched_machine.specs.Callbacks.{call_back, call_by_linux, one_task, task_and_number, two_numbers}
 use Rattle.scx_sched_machine.specs.Custody.{tells_left}
 use Rattle.scx_sched_machine.specs.Put.{enters, enqueue_choice, enters_builtin, comes_in, put}
 use Rattle.scx_sched_machine.specs.Filling.{move_note, fill}
@@ -25,11 +27,12 @@ use Rattle.scx_sched.proofs.Firsts.{no_front_is_empty}
 use Rattle.scx_sched.proofs.Seen.{next_seen}
 use Rattle.scx_sched_world.proofs.Fronts.{front_in}
 use Rattle.scx_sched_machine.specs.Cycle.{keeps_slice, supply_unless_kept, dispatch_called, after_dispatch, asks_again, tries, stopping_called, after_stopping, after_running, put_back, leave, switched, started_if, start, hears_idle, tells_idle, idle_note, kept, rest, swap, swap_or_rest, builtin_dispatch, builtin_fill, builtin_ask, builtin_cycle, start_or_cycle, picked, refilled, is_local, start_picked, start_picked_or_cycle, tells_busy, makes_way, pick, pick_or_rest, keep_or_pick, conclude, give_up, ask, seek, look, cycling, falls_idle, notes_idle, idle_or_anew, becomes_idle, concluded, cycle}
+use Rattle.scx_sched_machine.specs.Events.{leaves_cpu}
 use Rattle.scx_laws.specs.Differences.{KeepsSlice, HasLeft, GivesWay, IsToAsk}
-use Rattle.scx_laws.specs.Cycles.{noting, silent, entering, enqueue_called, dispatch_run, dispatch_noted, CallsDispatch, gone_off, gone_on, picked_on, HasStopped, Policy_hears, Is_charged, HasStarted, Policy_learns, Catches_up, Enters, For_builtin, Default, Held, Inserted, Puts, Fills, HasLocal, NoOther, Moves, Parks, NextIsFree, ParksFirst, NoneLeft, OneMore, Supplies, Supplied, ParkedOne, FillsBuiltin, HasOne, Looked, Dispatches, Supplied_then, Kept_then, Asks, Enough, Came, NothingMoved, KeptOn, Again, PutsBack, Is_put, Goes_first, Leaves, Nobody, Stops, Starts, Empty, Front, Rests, Keeps, Idles, IdlesUnheard, WasIdle, Swaps, SwapsOrRests, Swapped, Kept, CyclesBuiltin, StartsOrAnew, Runs_front, Emptied, StartsPicked, picking, TellsBusy, WasAtRest, HadTask, HadRun, MakesWay, Picks, Picks_then, Picks_before, Picks_anew, Ends, Anew, KeepsOn, Picked, Rested, Seeks, Filled, Asked, Looks, Of_policy, Of_builtin, FallsIdle, StaysIdle, IsNoted, CyclesAnew, HearsOfIdle, Concludes, FellIdle, HasEnded, Cycles}
-use Rattle.scx_laws.proofs.Differing.{both_true, and_true, false_from, not_so, then_stays, calls_if_there, only_calls_if_there, hears_idle_is, hears_idle_of, unheard_is, unheard_of, in_is, in_of, homes, only_homes, begins_cycle, only_begins_cycle, ends_cycle, only_ends_cycle, keeps, gives, keeps_or_gives, switches, only_switches, asks_of, asks_is, gives_up, only_gives_up}
+use Rattle.scx_laws.specs.Cycles.{noting, silent, entering, enqueue_called, dispatch_run, dispatch_noted, CallsDispatch, gone_off, gone_on, picked_on, HasStopped, Policy_hears, Is_charged, HasStarted, Policy_learns, Catches_up, HearsStop, HearsRun, LeavesCpu, Enters, For_builtin, Default, Held, Inserted, Puts, Fills, HasLocal, NoOther, Moves, Parks, NextIsFree, ParksFirst, NoneLeft, OneMore, Supplies, Supplied, ParkedOne, FillsBuiltin, HasOne, Looked, Dispatches, Supplied_then, Kept_then, Asks, Enough, Came, NothingMoved, KeptOn, Again, PutsBack, Is_put, Goes_first, Leaves, Nobody, Stops, Starts, Empty, Front, Rests, Keeps, Idles, IdlesUnheard, WasIdle, Swaps, SwapsOrRests, Swapped, Kept, CyclesBuiltin, StartsOrAnew, Runs_front, Emptied, StartsPicked, picking, TellsBusy, WasAtRest, HadTask, HadRun, MakesWay, Picks, Picks_then, Picks_before, Picks_anew, Ends, Anew, KeepsOn, Picked, Rested, Seeks, Filled, Asked, Looks, Of_policy, Of_builtin, FallsIdle, StaysIdle, IsNoted, CyclesAnew, HearsOfIdle, Concludes, FellIdle, HasEnded, Cycles}
+use Rattle.scx_laws.proofs.Differing.{not_so, calls_if_there, only_calls_if_there, hears_idle_is, hears_idle_of, unheard_is, unheard_of, in_is, in_of, homes, only_homes, begins_switch, only_begins_switch, begins_cycle, only_begins_cycle, ends_cycle, only_ends_cycle, keeps, gives, keeps_or_gives, switches, only_switches, asks_of, asks_is, gives_up, only_gives_up}
 use Rattle.scx_laws.specs.BoundTasks.{IsNextFor}
-use Rattle.scx_laws.proofs.BindingTasks.{next_is, only_next}
+use Rattle.scx_laws.proofs.BindingTasks.{next_is, only_next, nobody_is}
 use Rattle.scx_laws.proofs.Departing.{tells_who_left, only_tells_who_left}
 
 -- ---- put
@@ -75,7 +78,7 @@ abbrev stopped_as : State → ℕ → ℕ → ℕ → Option Eject → Stepped
 stopped_as s c t n x = if is_some x then silent s (after_charge s.world t) else stopping_called s c t n
 
 -- a task leaves its processor as it is computed
-pub stops : (s : State) (c t n : ℕ) → HasStopped s c t n (after_stopping s c t n)
+stops : (s : State) (c t n : ℕ) → HasStopped s c t n (after_stopping s c t n)
 unfolding after_stopping
 stops s c t n = go s.world.ejected refl
   where
@@ -84,10 +87,49 @@ stops s c t n = go s.world.ejected refl
     go (Some x) e = Is_charged x e refl
 
 -- and in no other way
-pub only_stops : (s : State) (c t n : ℕ) (r : Stepped) → HasStopped s c t n r → r ≡ after_stopping s c t n
+only_stops : (s : State) (c t n : ℕ) (r : Stepped) → HasStopped s c t n r → r ≡ after_stopping s c t n
 unfolding after_stopping
 only_stops s c t n r (Policy_hears e k) = k ∙ ap (λ o. stopped_as s c t n o) (sym e)
 only_stops s c t n r (Is_charged x e k) = k ∙ ap (λ o. stopped_as s c t n o) (sym e)
+
+abbrev stop_note : State → ℕ → ℕ → Stepped → Stepped
+stop_note s c t r = after (note_now s.world (note.Stop t c) ∷ []) r
+
+-- and so while the processor switches
+pub leaves_now : (s : State) (c t n : ℕ) → LeavesCpu s c t n (leaves_cpu s c t n)
+unfolding leaves_cpu
+leaves_now s c t n = record {
+  switching = with_switch s.world c;
+  switches = begins_switch s.world c;
+  stopped = after_stopping (gone_off (with_world s (with_switch s.world c)) c t) c t n;
+  stops = stops (gone_off (with_world s (with_switch s.world c)) c t) c t n;
+  all = refl;
+}
+
+pub only_leaves_now : (s : State) (c t n : ℕ) (r : Stepped) → LeavesCpu s c t n r → r ≡ leaves_cpu s c t n
+unfolding leaves_cpu
+only_leaves_now s c t n r h =
+    h.all ∙ ap (λ x. stop_note s c t x) (only_stops (gone_off (with_world s h.switching) c t) c t n h.stopped h.stops)
+    ∙ ap (λ w. stop_note s c t (after_stopping (gone_off (with_world s w) c t) c t n)) (only_begins_switch s.world c h.switching h.switches)
+
+-- one that is changed as it runs stops and runs again
+abbrev pub stop_heard : State → ℕ → ℕ → Stepped
+stop_heard s c t = call_by_linux s callback.Stopping (task_and_number t 0) t c
+
+pub hears_stop : (s : State) (c t : ℕ) → HearsStop s c t (stop_heard s c t)
+hears_stop s c t = calls_if_there s callback.Stopping (task_and_number t 0) t c
+
+pub only_hears_stop : (s : State) (c t : ℕ) (r : Stepped) → HearsStop s c t r → r ≡ stop_heard s c t
+only_hears_stop s c t r h = only_calls_if_there s callback.Stopping (task_and_number t 0) t c r h
+
+abbrev pub run_heard : State → ℕ → ℕ → Stepped
+run_heard s c t = call_by_linux s callback.Running (one_task t) t c
+
+pub hears_run : (s : State) (c t : ℕ) → HearsRun s c t (run_heard s c t)
+hears_run s c t = calls_if_there s callback.Running (one_task t) t c
+
+pub only_hears_run : (s : State) (c t : ℕ) (r : Stepped) → HearsRun s c t r → r ≡ run_heard s c t
+only_hears_run s c t r h = only_calls_if_there s callback.Running (one_task t) t c r h
 
 abbrev started_as : State → ℕ → ℕ → Option Eject → Stepped
 started_as s c t x = if is_some x then silent s (after_catch_up s.world t) else call_back s callback.Running (one_task t) t c
@@ -150,11 +192,8 @@ throttled_if : (w : WorldState) (o : Option ℕ) (t : ℕ) → if_throttled w o 
 throttled_if w None t e = absurd (cc)
 throttled_if w (Some u) t e = at (is_throttled w u) refl e
   where
-    same : (a b : ℕ) → Some a ≡ Some b → a ≡ b
-    same a b x = ap (λ o. unwrap_or o a) x
-
     at : (b : Bool) → is_throttled w u ≡ b → cond b (Some u) None ≡ Some t → (Some u ≡ Some t) × (is_throttled w t ≡ true)
-    at true x y = (y, ap (λ k. is_throttled w k) (sym (same u t y)) ∙ x)
+    at true x y = (y, ap (λ k. is_throttled w k) (sym (same_Some u t y)) ∙ x)
     at false x y = absurd (cc)
 
 -- that task is the one that is looked for
@@ -163,11 +202,7 @@ throttled_of w o t e h = ap (λ x. if_throttled w x) e ∙ ap (λ b. cond b (Som
 
 -- where none is found, the task isn't throttled
 free_if : (w : WorldState) (o : Option ℕ) → if_throttled w o ≡ None → (t : ℕ) → o ≡ Some t → is_throttled w t ≡ false
-free_if w o e t f = at (is_throttled w t) refl (ap (λ x. if_throttled w x) (sym f) ∙ e)
-  where
-    at : (b : Bool) → is_throttled w t ≡ b → cond b (Some t) None ≡ None → is_throttled w t ≡ false
-    at true x y = absurd (cc)
-    at false x y = x
+free_if w o e t f = false_from_ne_true (is_throttled w t) (λ h. let bad : Some t ≡ None = sym (throttled_of w o t f h) ∙ e in absurd (cc))
 
 -- where it isn't, none is found
 free_of : (w : WorldState) (o : Option ℕ) → ((t : ℕ) → o ≡ Some t → is_throttled w t ≡ false) → if_throttled w o ≡ None
@@ -323,7 +358,7 @@ tried_as n s c p b = let d = after_dispatch s c p in if b then one_after_other d
 
 -- dispatch isn't asked again
 not_again : (s : State) (c : ℕ) (p : Option ℕ) → (IsToAsk s c p → ⊥) → asks_again s c p ≡ false
-not_again s c p n = false_from (asks_again s c p) (λ e. n (asks_is s c p e))
+not_again s c p n = false_from_ne_true (asks_again s c p) (λ e. n (asks_is s c p e))
 
 asks : (n : ℕ) (s : State) (c : ℕ) (p : Option ℕ) → Asks n s c p (tries n s c p)
 unfolding tries
@@ -375,7 +410,7 @@ leaves s c (Some t) =
     Stops t l (put_back l.state c t) refl (stops (gone_off s c t) c t 1) (puts_back l.state c t) refl
 
 abbrev left_as : State → ℕ → ℕ → Stepped → Stepped → Stepped
-left_as s c t l x = after (note_now s.world (note.Stop t c) ∷ []) (one_after_other l x)
+left_as s c t l x = stop_note s c t (one_after_other l x)
 
 only_leaves : (s : State) (c : ℕ) (p : Option ℕ) (r : Stepped) → Leaves s c p r → r ≡ leave s c p
 unfolding leave
@@ -629,7 +664,7 @@ only_picks s c p ran r (Picks_before t l x e f h q y k) =
     ∙ picked_at s c p ran t l true e f (only_gives_way (picking s t) c p ran l h) (in_of (local_on c) (entry_of l.state.world.queues t) q)
 only_picks s c p ran r (Picks_anew t l x e f h n y k) =
     k ∙ ap (λ z. one_after_other l z) (only_starts_or_anew l.state c ran x y)
-    ∙ picked_at s c p ran t l false e f (only_gives_way (picking s t) c p ran l h) (false_from (is_local l.state c t) (λ z. n (in_is (local_on c) (entry_of l.state.world.queues t) z)))
+    ∙ picked_at s c p ran t l false e f (only_gives_way (picking s t) c p ran l h) (false_from_ne_true (is_local l.state c t) (λ z. n (in_is (local_on c) (entry_of l.state.world.queues t) z)))
 
 abbrev pick_if : State → ℕ → Option ℕ → Bool → Bool → Stepped
 pick_if s c p ran b = if b then pick s c p ran else rest s c p ran
@@ -809,21 +844,17 @@ only_hears_of_idle s c r h =
     h.all ∙ ap (λ x. one_after_other h.told x) (only_stays_idle h.told.state c h.done h.stays_so)
     ∙ ap (λ (x : Stepped). one_after_other x (idle_or_anew x.state c)) (only_calls_if_there (with_world s (out_of_cycle s.world)) callback.UpdateIdle (two_numbers c 1) 0 c h.told h.tells)
 
-no_task : (o : Option ℕ) → is_none o ≡ true → o ≡ None
-no_task None e = refl
-no_task (Some t) e = absurd (cc)
-
 falls_is : (s : State) (c : ℕ) (ran : Bool) → falls_idle s c ran ≡ true → FallsIdle s c ran
 unfolding falls_idle
 falls_is s c ran e =
-    let x = both_true ran (hears_idle s && is_none (running s.world c)) e in
-    let y = both_true (hears_idle s) (is_none (running s.world c)) x.1 in
-    record { hears = hears_idle_is s y.0; had_task = x.0; has_none = no_task (running s.world c) y.1 }
+    let x = and_parts ran (hears_idle s && is_none (running s.world c)) e in
+    let y = and_parts (hears_idle s) (is_none (running s.world c)) x.1 in
+    record { hears = hears_idle_is s y.0; had_task = x.0; has_none = nobody_is (running s.world c) y.1 }
 
 falls_of : (s : State) (c : ℕ) (ran : Bool) → FallsIdle s c ran → falls_idle s c ran ≡ true
 unfolding falls_idle
 falls_of s c ran h =
-    and_true ran (hears_idle s && is_none (running s.world c)) h.had_task (and_true (hears_idle s) (is_none (running s.world c)) (hears_idle_of s h.hears) (ap (λ o. is_none o) h.has_none))
+    and_from ran (hears_idle s && is_none (running s.world c)) h.had_task (and_from (hears_idle s) (is_none (running s.world c)) (hears_idle_of s h.hears) (ap (λ o. is_none o) h.has_none))
 
 abbrev concluded_as_so : State → ℕ → Bool → Stepped
 concluded_as_so s c b = if b then becomes_idle s c else silent s (with_cycling s.world None)
@@ -840,7 +871,7 @@ only_concludes : (s : State) (c : ℕ) (ran : Bool) (r : Stepped) → Concludes 
 unfolding concluded
 only_concludes s c ran r (FellIdle f h) = only_hears_of_idle s c r h ∙ ap (λ b. concluded_as_so s c b) (sym (falls_of s c ran f))
 only_concludes s c ran r (HasEnded w n h k) =
-    k ∙ ap (λ v. silent s v) (only_ends_cycle s.world w h) ∙ ap (λ b. concluded_as_so s c b) (sym (false_from (falls_idle s c ran) (λ e. n (falls_is s c ran e))))
+    k ∙ ap (λ v. silent s v) (only_ends_cycle s.world w h) ∙ ap (λ b. concluded_as_so s c b) (sym (false_from_ne_true (falls_idle s c ran) (λ e. n (falls_is s c ran e))))
 
 -- a cycle goes as it is computed
 pub cycles : (s : State) (c : ℕ) (p : Option ℕ) (ran : Bool) → Cycles s c p ran (cycle s c p ran)

@@ -1,7 +1,8 @@
 -- A policy hears who left its custody as it is computed, and in no other way.
 use Rattle.std.proofs.Common.{◌≡◌, ℕ, Bool, true, false, ◌&&◌, ◌==◌, nat_lt, ◌⊎◌, inl, inr, if◌then◌else◌, List, [], ◌∷◌, Option, Some, None, is_some, refl, sym, ◌∙◌, ap, arith}
+use Rattle.std.proofs.lemmas.Option.{same_Some}
 use Rattle.std.proofs.lemmas.Bool.Decides.{nat_tests}
-use Rattle.std.proofs.lemmas.Bool.{eq-eqb}
+use Rattle.std.proofs.lemmas.Bool.{eq-eqb, and_from, and_right, and_left, or_cases, or_right, or_left, false_from_ne_true}
 use Rattle.scx_dsq.specs.Queues.{queue_of}
 use Rattle.scx_isa_semantics.specs.declared.callbacks.Callback.TheVariants as callback
 use Rattle.scx_vm.specs.Programs.{VerifiedProgram}
@@ -16,7 +17,7 @@ use Rattle.scx_sched_machine.specs.Callbacks.{task_and_number}
 use Rattle.scx_sched_machine.specs.Custody.{is_custody, is_in_custody, tells_dequeued, tells_dequeued_if, leaver, tells_of, tells_each, moved_as, hears_dequeue, tells_left}
 use Rattle.scx_sched_machine.specs.Events.{leaves_queue}
 use Rattle.scx_laws.specs.Custody.{IsInCustody, InItsQueue, IsHeld, gone_out, LeavesQueue, LeavesCustody, LeavesOther, HasLeft, WasMoved, WasReleased, TellsOf, OneLeft, NoneLeft, TellsEach, NoNotes, OneNote, KeepsMoved, IsKept, IsForgotten, TellsLeft, LeftByPlain, HasNoDequeue, TellsAll}
-use Rattle.scx_laws.proofs.Differing.{below, past, some_same, and_true, and_false, false_and, not_so, false_from, true_either, or_second, or_first, none_if_never, calls_if_there, only_calls_if_there}
+use Rattle.scx_laws.proofs.Differing.{below, past, not_so, none_if_never, calls_if_there, only_calls_if_there}
 
 -- ---- custody
 
@@ -29,11 +30,11 @@ in_custody_is w t e = go (queue_of w.queues t) refl e
 
     go : (o : Option ℕ) → queue_of w.queues t ≡ o → is_custody o ≡ true → IsInCustody w t
     go None k x = absurd (cc)
-    go (Some q) k x = at q k (true_either (nat_lt q policy_end) (q == held_queue) x)
+    go (Some q) k x = at q k (or_cases (nat_lt q policy_end) (q == held_queue) x)
 
 in_custody_of : (w : WorldState) (t : ℕ) → IsInCustody w t → is_in_custody w t ≡ true
-in_custody_of w t (InItsQueue q k l) = ap (λ o. is_custody o) k ∙ or_first (nat_lt q policy_end) (q == held_queue) (below q policy_end l)
-in_custody_of w t (IsHeld k) = ap (λ o. is_custody o) k ∙ or_second (nat_lt held_queue policy_end) (held_queue == held_queue) (eq-eqb held_queue held_queue refl)
+in_custody_of w t (InItsQueue q k l) = ap (λ o. is_custody o) k ∙ or_left (nat_lt q policy_end) (q == held_queue) (below q policy_end l)
+in_custody_of w t (IsHeld k) = ap (λ o. is_custody o) k ∙ or_right (nat_lt held_queue policy_end) (held_queue == held_queue) (eq-eqb held_queue held_queue refl)
 
 abbrev left_if : State → ℕ → ℕ → ℕ → Bool → Stepped
 left_if s t c flags b = tells_dequeued_if b (gone_out s t) t c flags
@@ -52,7 +53,7 @@ pub only_departs : (s : State) (t c flags : ℕ) (r : Stepped) → LeavesQueue s
 unfolding leaves_queue tells_dequeued
 only_departs s t c flags r (LeavesCustody h x) =
     only_calls_if_there (gone_out s t) callback.Dequeue (task_and_number t flags) t c r x ∙ ap (λ b. left_if s t c flags b) (sym (in_custody_of s.world t h))
-only_departs s t c flags r (LeavesOther n k) = k ∙ ap (λ b. left_if s t c flags b) (sym (false_from (is_in_custody s.world t) (λ e. n (in_custody_is s.world t e))))
+only_departs s t c flags r (LeavesOther n k) = k ∙ ap (λ b. left_if s t c flags b) (sym (false_from_ne_true (is_in_custody s.world t) (λ e. n (in_custody_is s.world t e))))
 
 -- ---- out of dispatch
 
@@ -61,8 +62,8 @@ has_left_is (note.Insert u q) t e = go (nat_lt q policy_end) refl e
   where
     go : (b : Bool) → nat_lt q policy_end ≡ b → (if b then None else Some u) ≡ Some t → HasLeft (note.Insert u q) t
     go true z y = absurd (cc)
-    go false z y = WasReleased q (ap (λ k. note.Insert k q) (some_same u t y)) (grind (arith, nat_tests, z))
-has_left_is (note.Move u c) t e = WasMoved c (ap (λ k. note.Move k c) (some_same u t e))
+    go false z y = WasReleased q (ap (λ k. note.Insert k q) (same_Some u t y)) (grind (arith, nat_tests, z))
+has_left_is (note.Move u c) t e = WasMoved c (ap (λ k. note.Move k c) (same_Some u t e))
 has_left_is x t e = absurd (cc)
 
 has_left_of : (x : What) (t : ℕ) → HasLeft x t → leaver x ≡ Some t
@@ -131,8 +132,8 @@ tells_who_left s c ns = go (is_by_linux s) refl s.policy.callbacks.dequeue refl
 -- and in no other way
 pub only_tells_who_left : (s : State) (c : ℕ) (ns : List Note) (r : Stepped) → TellsLeft s c ns r → r ≡ tells_left s c ns
 unfolding tells_left hears_dequeue
-only_tells_who_left s c ns r (LeftByPlain e k) = k ∙ ap (λ b. told_if s c ns b) (sym (false_and (is_by_linux s) (is_some s.policy.callbacks.dequeue) e))
-only_tells_who_left s c ns r (HasNoDequeue e k) = k ∙ ap (λ b. told_if s c ns b) (sym (and_false (is_by_linux s) (is_some s.policy.callbacks.dequeue) (ap (λ o. is_some o) e)))
+only_tells_who_left s c ns r (LeftByPlain e k) = k ∙ ap (λ b. told_if s c ns b) (sym (and_left (is_by_linux s) (is_some s.policy.callbacks.dequeue) e))
+only_tells_who_left s c ns r (HasNoDequeue e k) = k ∙ ap (λ b. told_if s c ns b) (sym (and_right (is_by_linux s) (is_some s.policy.callbacks.dequeue) (ap (λ o. is_some o) e)))
 only_tells_who_left s c ns r (TellsAll p told v e h x y k) =
     k ∙ ap (λ z. told_so s told z) (only_keeps_moved s told.state v y) ∙ ap (λ (z : Stepped). told_so s z (moved_as s.world.call.has_moved z.state)) (only_tells_all ns s c told x)
-    ∙ ap (λ b. told_if s c ns b) (sym (and_true (is_by_linux s) (is_some s.policy.callbacks.dequeue) e (ap (λ o. is_some o) h)))
+    ∙ ap (λ b. told_if s c ns b) (sym (and_from (is_by_linux s) (is_some s.policy.callbacks.dequeue) e (ap (λ o. is_some o) h)))

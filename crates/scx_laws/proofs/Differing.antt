@@ -1,8 +1,8 @@
 -- Where the rules differ, what is computed is as the cases allow, and nothing else is.
-use Rattle.std.proofs.Common.{◌≡◌, ℕ, ◌+◌, ◌%◌, ◌<◌, ◌≤◌, nat_lt, Bool, true, false, not, ◌==◌, ◌&&◌, ◌||◌, ◌⊎◌, inl, inr, if◌then◌else◌, [], ◌++◌, Option, Some, None, is_some, slice_index_or, unwrap_or, option_map, refl, sym, ◌∙◌, ap, arith}
-use Rattle.std.proofs.lemmas.Bool.{cases_eq, eq-eqb, ne_eqb}
+use Rattle.std.proofs.Common.{◌≡◌, ℕ, ◌+◌, ◌%◌, ◌<◌, ◌≤◌, nat_lt, Bool, true, false, not, ◌==◌, ◌&&◌, ◌⊎◌, inl, inr, if◌then◌else◌, Option, Some, None, is_some, slice_index_or, unwrap_or, option_map, refl, sym, ◌∙◌, ap, arith}
+use Rattle.std.proofs.lemmas.Option.{same_Some}
+use Rattle.std.proofs.lemmas.Bool.{cases_eq, eq-eqb, ne_eqb, false_from_ne_true, and_right, and_parts, or_left, not-true, or_cases, and_from, or_right, and_left}
 use Rattle.std.proofs.lemmas.Bool.Decides.{nat_tests}
-use Rattle.std.proofs.lemmas.List.{append-nil}
 use Rattle.scx_dsq.specs.Queues.{is_in}
 use Rattle.scx_dsq.specs.declared.entries.Entry.{Entry}
 use Rattle.scx_isa_semantics.specs.declared.callbacks.Callback.{Callback}
@@ -14,45 +14,15 @@ use Rattle.scx_sched_world.specs.CpuSets.{but_cpu}
 use Rattle.scx_sched_world.specs.World as world
 use Rattle.scx_sched_world.specs.World.{WorldState, nothing_passes, or_switch, with_switch, with_cycling, with_slept, with_waker, current_in, current, here, task_at, running, is_idle}
 use Rattle.scx_sched_world.specs.Tasks.{homed, local_len, after_switch}
-use Rattle.scx_sched_machine.specs.Steps.{State, Stepped, with_world, stays, one_after_other, is_by_linux, kicked, kicked_if_idle}
+use Rattle.scx_sched_machine.specs.Steps.{State, Stepped, with_world, stays, is_by_linux, kicked, kicked_if_idle}
 use Rattle.scx_sched_machine.specs.Cycle.{keeps_slice, asks_again, switched, give_up, hears_idle}
 use Rattle.scx_sched_policy.specs.Policy.{program_of}
 use Rattle.scx_sched_machine.specs.Callbacks.{call_back, call_by_linux, one_task}
 use Rattle.scx_sched_machine.specs.Events.{from_waker, told_of_sleep, is_tick_time, ends_slices, hears_tick, tick_heard}
-use Rattle.scx_laws.specs.Differences.{with_home_at, Homes, StaysAtHome, MovesHome, IsCurrent, NoSwitch, SwitchesHere, SwitchesElsewhere, BeginsSwitch, NoSwitchByPlain, IsSwitching, Begins, BeginsCycle, BeginsByPlain, BeginsByLinux, EndsCycle, EndsAsByPlain, EndsAsByLinux, IsHere, WokenFrom, AtHand, TellsWaker, NoWaker, HasWaker, CallsIfThere, IsPlain, IsAbsent, IsThere, IsTickTime, EachMs, AtTick, HearsTick, NoTickByPlain, HasNoTick, BetweenTicks, IsCalled, HearsIdle, HasUpdateIdle, KeepsSlice, HasLeft, GivesWay, NoTask, ByPlain, UsedUp, Switches, SwitchesByPlain, SwitchesExactly, TakesTime, EndsSlices, EndsByPlain, EndsAtTick, TellsSleep, TellsNobody, Tells, IsToAsk, GivesUp, GivesUpByPlain, HasAsked, LooksAgain, LooksIfIdle, LooksByPlain, IsBusy, Looks}
+use Rattle.scx_laws.specs.Differences.{with_home_at, Homes, StaysAtHome, MovesHome, IsCurrent, NoSwitch, SwitchesHere, SwitchesElsewhere, BeginsSwitch, NoSwitchByPlain, IsSwitching, Begins, BeginsCycle, BeginsByPlain, BeginsByLinux, EndsCycle, EndsAsByPlain, EndsAsByLinux, IsHere, WokenFrom, AtHand, NextByLinux, StaysByPlain, BecomesNext, TellsWaker, CallsIfThere, IsPlain, IsAbsent, IsThere, IsTickTime, EachMs, AtTick, HearsTick, NoTickByPlain, HasNoTick, BetweenTicks, IsCalled, HearsIdle, HasUpdateIdle, KeepsSlice, HasLeft, GivesWay, NoTask, ByPlain, UsedUp, Switches, SwitchesByPlain, SwitchesExactly, TakesTime, EndsSlices, EndsByPlain, EndsAtTick, TellsSleep, IsToAsk, GivesUp, GivesUpByPlain, HasAsked, LooksAgain, LooksIfIdle, LooksByPlain, IsBusy, Looks}
 use Rattle.scx_laws.specs.Allowing.{CyclesEndSwitches, CyclesKeepCurrent}
 
 -- ---- Booleans
-
-pub both_true : (a b : Bool) → (a && b) ≡ true → (a ≡ true) × (b ≡ true)
-both_true true true e = (refl, refl)
-both_true true false e = absurd (cc)
-both_true false b e = absurd (cc)
-
-pub and_true : (a b : Bool) → a ≡ true → b ≡ true → (a && b) ≡ true
-and_true a b x y = rw (x, y) refl
-
-pub and_false : (a b : Bool) → b ≡ false → (a && b) ≡ false
-and_false true b y = y
-and_false false b y = refl
-
-pub false_and : (a b : Bool) → a ≡ false → (a && b) ≡ false
-false_and a b x = rw x refl
-
-pub true_either : (a b : Bool) → (a || b) ≡ true → (a ≡ true) ⊎ (b ≡ true)
-true_either true b e = inl refl
-true_either false b e = inr e
-
-pub or_second : (a b : Bool) → b ≡ true → (a || b) ≡ true
-or_second true b e = refl
-or_second false b e = e
-
-pub or_first : (a b : Bool) → a ≡ true → (a || b) ≡ true
-or_first a b e = rw e refl
-
-pub false_from : (b : Bool) → (b ≡ true → ⊥) → b ≡ false
-false_from true f = absurd (f refl)
-false_from false f = refl
 
 pub not_so : (b : Bool) → b ≡ false → b ≡ true → ⊥
 not_so true x y = absurd (cc)
@@ -77,19 +47,8 @@ is_some_left n e = go (cases_eq n 0)
     go (inl z) = let b : not (n == 0) ≡ false = rw (eq-eqb n 0 z) refl in absurd (not_so (not (n == 0)) b e)
     go (inr d) = omega (arith, d)
 
-zero_not : (n : ℕ) → n ≡ 0 → not (n == 0) ≡ false
+pub zero_not : (n : ℕ) → n ≡ 0 → not (n == 0) ≡ false
 zero_not n z = rw (eq-eqb n 0 z) refl
-
--- ---- steps
-
--- a step that stays adds nothing
-pub then_stays_in : (r : Stepped) (v : State) → one_after_other r (stays v) ≡ record r { state = v }
-then_stays_in r v =
-    ap (λ x. record { state = v; notes = x; calls = r.calls ++ [] }) (append-nil r.notes)
-    ∙ ap (λ x. record { state = v; notes = r.notes; calls = x }) (append-nil r.calls)
-
-pub then_stays : (r : Stepped) → one_after_other r (stays r.state) ≡ r
-then_stays r = then_stays_in r r.state
 
 -- ---- what may be found
 
@@ -97,9 +56,6 @@ then_stays r = then_stays_in r r.state
 pub none_if_never : (o : Option ℕ) → ((k : ℕ) → o ≡ Some k → ⊥) → o ≡ None
 none_if_never None n = refl
 none_if_never (Some k) n = absurd (n k refl)
-
-pub some_same : (a b : ℕ) → Some a ≡ Some b → a ≡ b
-some_same a b e = ap (λ x. unwrap_or x a) e
 
 -- ---- in which queue a task waits
 
@@ -109,7 +65,7 @@ in_is q (Some p) e = ap Some (grind (arith, nat_tests, e))
 
 pub in_of : (q : ℕ) (o : Option Entry) → option_map (λ p. p.queue) o ≡ Some q → is_in q o ≡ true
 in_of q None e = absurd (cc)
-in_of q (Some p) e = eq-eqb p.queue q (some_same p.queue q e)
+in_of q (Some p) e = eq-eqb p.queue q (same_Some p.queue q e)
 
 -- ---- the processor of a task
 
@@ -130,13 +86,13 @@ only_homes w t c v (MovesHome e k) = k ∙ ap (λ b. homed_as w t c b) (sym e)
 -- ---- slices
 
 pub keeps : (s : State) (p : Option ℕ) → KeepsSlice s p → keeps_slice s p ≡ true
-keeps s p (HasLeft t b e l) = ap (λ o. keeps_slice s o) e ∙ and_true (is_by_linux s) (not ((task_at s.world t).slice == 0)) b (not_zero (task_at s.world t).slice l)
+keeps s p (HasLeft t b e l) = ap (λ o. keeps_slice s o) e ∙ and_from (is_by_linux s) (not ((task_at s.world t).slice == 0)) b (not_zero (task_at s.world t).slice l)
 
 pub gives : (s : State) (p : Option ℕ) → GivesWay s p → keeps_slice s p ≡ false
 gives s p (NoTask e) = ap (λ o. keeps_slice s o) e
-gives s p (UsedUp t e z) = ap (λ o. keeps_slice s o) e ∙ and_false (is_by_linux s) (not ((task_at s.world t).slice == 0)) (zero_not (task_at s.world t).slice z)
+gives s p (UsedUp t e z) = ap (λ o. keeps_slice s o) e ∙ and_right (is_by_linux s) (not ((task_at s.world t).slice == 0)) (zero_not (task_at s.world t).slice z)
 gives s None (ByPlain e) = refl
-gives s (Some t) (ByPlain e) = false_and (is_by_linux s) (not ((task_at s.world t).slice == 0)) e
+gives s (Some t) (ByPlain e) = and_left (is_by_linux s) (not ((task_at s.world t).slice == 0)) e
 
 -- a task keeps its slice or gives way
 pub keeps_or_gives : (s : State) (p : Option ℕ) → KeepsSlice s p ⊎ GivesWay s p
@@ -172,32 +128,28 @@ only_switches s t v (TakesTime e l k) =
     k ∙ ap (λ b. switched_as s t true b) (sym (ne_eqb s.policy.tick_ms 0 (λ z. omega (arith, z, l)))) ∙ ap (λ a. switched_as s t a (s.policy.tick_ms == 0)) (sym e)
 
 tick_time_is : (s : State) → is_tick_time s ≡ true → IsTickTime s
-tick_time_is s e = go (true_either (s.policy.tick_ms == 0) ((s.world.clock + 1) % s.policy.tick_ms == 0) e)
+tick_time_is s e = go (or_cases (s.policy.tick_ms == 0) ((s.world.clock + 1) % s.policy.tick_ms == 0) e)
   where
     go : (s.policy.tick_ms == 0) ≡ true ⊎ ((s.world.clock + 1) % s.policy.tick_ms == 0) ≡ true → IsTickTime s
     go (inl x) = EachMs (is_zero s.policy.tick_ms x)
     go (inr x) = AtTick (is_zero ((s.world.clock + 1) % s.policy.tick_ms) x)
 
 tick_time_of : (s : State) → IsTickTime s → is_tick_time s ≡ true
-tick_time_of s (EachMs z) = or_first (s.policy.tick_ms == 0) ((s.world.clock + 1) % s.policy.tick_ms == 0) (eq-eqb s.policy.tick_ms 0 z)
-tick_time_of s (AtTick z) = or_second (s.policy.tick_ms == 0) ((s.world.clock + 1) % s.policy.tick_ms == 0) (eq-eqb ((s.world.clock + 1) % s.policy.tick_ms) 0 z)
-
-not_true_is : (b : Bool) → not b ≡ true → b ≡ false
-not_true_is true x = absurd (cc)
-not_true_is false x = refl
+tick_time_of s (EachMs z) = or_left (s.policy.tick_ms == 0) ((s.world.clock + 1) % s.policy.tick_ms == 0) (eq-eqb s.policy.tick_ms 0 z)
+tick_time_of s (AtTick z) = or_right (s.policy.tick_ms == 0) ((s.world.clock + 1) % s.policy.tick_ms == 0) (eq-eqb ((s.world.clock + 1) % s.policy.tick_ms) 0 z)
 
 pub ends_is : (s : State) → ends_slices s ≡ true → EndsSlices s
 unfolding ends_slices
-ends_is s e = go (true_either (not (is_by_linux s)) (is_tick_time s) e)
+ends_is s e = go (or_cases (not (is_by_linux s)) (is_tick_time s) e)
   where
     go : (not (is_by_linux s) ≡ true) ⊎ (is_tick_time s ≡ true) → EndsSlices s
-    go (inl x) = EndsByPlain (not_true_is (is_by_linux s) x)
+    go (inl x) = EndsByPlain (not-true (is_by_linux s) x)
     go (inr x) = EndsAtTick (tick_time_is s x)
 
 pub ends_of : (s : State) → EndsSlices s → ends_slices s ≡ true
 unfolding ends_slices
-ends_of s (EndsByPlain e) = or_first (not (is_by_linux s)) (is_tick_time s) (ap (λ b. not b) e)
-ends_of s (EndsAtTick h) = or_second (not (is_by_linux s)) (is_tick_time s) (tick_time_of s h)
+ends_of s (EndsByPlain e) = or_left (not (is_by_linux s)) (is_tick_time s) (ap (λ b. not b) e)
+ends_of s (EndsAtTick h) = or_right (not (is_by_linux s)) (is_tick_time s) (tick_time_of s h)
 
 -- ---- the current task
 
@@ -321,21 +273,27 @@ pub only_here : (w : WorldState) (n : ℕ) → IsHere w n → n ≡ here w
 only_here w n (WokenFrom c e k) = k ∙ ap (λ o. unwrap_or o w.call.cpu) (sym e)
 only_here w n (AtHand e k) = k ∙ ap (λ o. unwrap_or o w.call.cpu) (sym e)
 
-abbrev waker_as : State → ℕ → Bool → State
-waker_as s t b = if b then with_world s (with_waker s.world (Some (task_at s.world t).prev_cpu)) else s
+abbrev next_as : State → State → Bool → State
+next_as s next b = if b then next else s
+
+next_by_linux : (s next : State) → NextByLinux s next (next_as s next (is_by_linux s))
+next_by_linux s next = go (is_by_linux s) refl
+  where
+    go : (b : Bool) → is_by_linux s ≡ b → NextByLinux s next (next_as s next b)
+    go true e = BecomesNext e refl
+    go false e = StaysByPlain e refl
+
+only_next_by_linux : (s next v : State) → NextByLinux s next v → v ≡ next_as s next (is_by_linux s)
+only_next_by_linux s next v (StaysByPlain e k) = k ∙ ap (λ b. next_as s next b) (sym e)
+only_next_by_linux s next v (BecomesNext e k) = k ∙ ap (λ b. next_as s next b) (sym e)
 
 pub tells_waker : (s : State) (t : ℕ) → TellsWaker s t (from_waker s t)
 unfolding from_waker
-tells_waker s t = go (is_by_linux s) refl
-  where
-    go : (b : Bool) → is_by_linux s ≡ b → TellsWaker s t (waker_as s t b)
-    go true e = HasWaker e refl
-    go false e = NoWaker e refl
+tells_waker s t = next_by_linux s (with_world s (with_waker s.world (Some (task_at s.world t).prev_cpu)))
 
 pub only_tells_waker : (s : State) (t : ℕ) (v : State) → TellsWaker s t v → v ≡ from_waker s t
 unfolding from_waker
-only_tells_waker s t v (NoWaker e k) = k ∙ ap (λ b. waker_as s t b) (sym e)
-only_tells_waker s t v (HasWaker e k) = k ∙ ap (λ b. waker_as s t b) (sym e)
+only_tells_waker s t v h = only_next_by_linux s _ v h
 
 -- ---- callbacks by Linux rules
 
@@ -353,9 +311,9 @@ calls_if_there s b a t c = go (is_by_linux s) refl (program_of s.policy b) refl
 
 pub only_calls_if_there : (s : State) (b : Callback) (a : Args) (t c : ℕ) (r : Stepped) → CallsIfThere s b a t c r → r ≡ call_by_linux s b a t c
 unfolding call_by_linux
-only_calls_if_there s b a t c r (IsPlain e k) = k ∙ ap (λ x. called_as s b a t c x) (sym (false_and (is_by_linux s) (is_some (program_of s.policy b)) e))
-only_calls_if_there s b a t c r (IsAbsent e k) = k ∙ ap (λ x. called_as s b a t c x) (sym (and_false (is_by_linux s) (is_some (program_of s.policy b)) (ap (λ o. is_some o) e)))
-only_calls_if_there s b a t c r (IsThere p e h k) = k ∙ ap (λ x. called_as s b a t c x) (sym (and_true (is_by_linux s) (is_some (program_of s.policy b)) e (ap (λ o. is_some o) h)))
+only_calls_if_there s b a t c r (IsPlain e k) = k ∙ ap (λ x. called_as s b a t c x) (sym (and_left (is_by_linux s) (is_some (program_of s.policy b)) e))
+only_calls_if_there s b a t c r (IsAbsent e k) = k ∙ ap (λ x. called_as s b a t c x) (sym (and_right (is_by_linux s) (is_some (program_of s.policy b)) (ap (λ o. is_some o) e)))
+only_calls_if_there s b a t c r (IsThere p e h k) = k ∙ ap (λ x. called_as s b a t c x) (sym (and_from (is_by_linux s) (is_some (program_of s.policy b)) e (ap (λ o. is_some o) h)))
 
 pub hears : (s : State) (c t : ℕ) → HearsTick s c t (tick_heard s c t)
 unfolding hears_tick tick_heard
@@ -384,14 +342,14 @@ only_hears s c t r h = go h
     done b = called_as s callback.Tick (one_task t) t c b
 
     go : HearsTick s c t r → r ≡ done ((x && y) && z)
-    go (NoTickByPlain e k) = k ∙ ap (λ b. done b) (sym (false_and (x && y) z (false_and x y e)))
-    go (HasNoTick e k) = k ∙ ap (λ b. done b) (sym (false_and (x && y) z (and_false x y (ap (λ o. is_some o) e))))
-    go (BetweenTicks n k) = k ∙ ap (λ b. done b) (sym (and_false (x && y) z (false_from z (λ m. n (tick_time_is s m)))))
-    go (IsCalled p e h m k) = k ∙ ap (λ b. done b) (sym (and_true (x && y) z (and_true x y e (ap (λ o. is_some o) h)) (tick_time_of s m)))
+    go (NoTickByPlain e k) = k ∙ ap (λ b. done b) (sym (and_left (x && y) z (and_left x y e)))
+    go (HasNoTick e k) = k ∙ ap (λ b. done b) (sym (and_left (x && y) z (and_right x y (ap (λ o. is_some o) e))))
+    go (BetweenTicks n k) = k ∙ ap (λ b. done b) (sym (and_right (x && y) z (false_from_ne_true z (λ m. n (tick_time_is s m)))))
+    go (IsCalled p e h m k) = k ∙ ap (λ b. done b) (sym (and_from (x && y) z (and_from x y e (ap (λ o. is_some o) h)) (tick_time_of s m)))
 
 pub hears_idle_is : (s : State) → hears_idle s ≡ true → HearsIdle s
 unfolding hears_idle
-hears_idle_is s e = let x = both_true (is_by_linux s) (is_some s.policy.callbacks.update_idle) e in go s.policy.callbacks.update_idle refl x.0 x.1
+hears_idle_is s e = let x = and_parts (is_by_linux s) (is_some s.policy.callbacks.update_idle) e in go s.policy.callbacks.update_idle refl x.0 x.1
   where
     go : (o : Option VerifiedProgram) → s.policy.callbacks.update_idle ≡ o → is_by_linux s ≡ true → is_some o ≡ true → HearsIdle s
     go None k y z = absurd (cc)
@@ -399,41 +357,33 @@ hears_idle_is s e = let x = both_true (is_by_linux s) (is_some s.policy.callback
 
 pub hears_idle_of : (s : State) → HearsIdle s → hears_idle s ≡ true
 unfolding hears_idle
-hears_idle_of s (HasUpdateIdle p e k) = and_true (is_by_linux s) (is_some s.policy.callbacks.update_idle) e (ap (λ o. is_some o) k)
+hears_idle_of s (HasUpdateIdle p e k) = and_from (is_by_linux s) (is_some s.policy.callbacks.update_idle) e (ap (λ o. is_some o) k)
 
 pub unheard_is : (s : State) → hears_idle s ≡ false → ¬ HearsIdle s
 unheard_is s e h = not_so (hears_idle s) e (hears_idle_of s h)
 
 pub unheard_of : (s : State) → ¬ HearsIdle s → hears_idle s ≡ false
-unheard_of s n = false_from (hears_idle s) (λ e. n (hears_idle_is s e))
+unheard_of s n = false_from_ne_true (hears_idle s) (λ e. n (hears_idle_is s e))
 
 -- ---- dispatch
 
-abbrev told_as : State → ℕ → Bool → State
-told_as s t b = if b then with_world s (with_slept s.world t) else s
-
 pub tells_sleep : (s : State) (t : ℕ) → TellsSleep s t (told_of_sleep s t)
 unfolding told_of_sleep
-tells_sleep s t = go (is_by_linux s) refl
-  where
-    go : (b : Bool) → is_by_linux s ≡ b → TellsSleep s t (told_as s t b)
-    go true e = Tells e refl
-    go false e = TellsNobody e refl
+tells_sleep s t = next_by_linux s (with_world s (with_slept s.world t))
 
 pub only_tells_sleep : (s : State) (t : ℕ) (v : State) → TellsSleep s t v → v ≡ told_of_sleep s t
 unfolding told_of_sleep
-only_tells_sleep s t v (TellsNobody e k) = k ∙ ap (λ b. told_as s t b) (sym e)
-only_tells_sleep s t v (Tells e k) = k ∙ ap (λ b. told_as s t b) (sym e)
+only_tells_sleep s t v h = only_next_by_linux s _ v h
 
 pub asks_of : (s : State) (c : ℕ) (p : Option ℕ) → IsToAsk s c p → asks_again s c p ≡ true
 asks_of s c p h =
-    and_true (not (keeps_slice s p)) ((local_len s.world c == 0) && s.world.call.has_moved) (ap (λ b. not b) (gives s p h.gives_way))
-    (and_true (local_len s.world c == 0) s.world.call.has_moved (eq-eqb (local_len s.world c) 0 h.empty) h.moved)
+    and_from (not (keeps_slice s p)) ((local_len s.world c == 0) && s.world.call.has_moved) (ap (λ b. not b) (gives s p h.gives_way))
+    (and_from (local_len s.world c == 0) s.world.call.has_moved (eq-eqb (local_len s.world c) 0 h.empty) h.moved)
 
 pub asks_is : (s : State) (c : ℕ) (p : Option ℕ) → asks_again s c p ≡ true → IsToAsk s c p
 asks_is s c p e =
-    let x = both_true (not (keeps_slice s p)) ((local_len s.world c == 0) && s.world.call.has_moved) e in
-    let y = both_true (local_len s.world c == 0) s.world.call.has_moved x.1 in
+    let x = and_parts (not (keeps_slice s p)) ((local_len s.world c == 0) && s.world.call.has_moved) e in
+    let y = and_parts (local_len s.world c == 0) s.world.call.has_moved x.1 in
     record { gives_way = way (keeps_or_gives s p) x.0; empty = is_zero (local_len s.world c) y.0; moved = y.1 }
   where
     way : KeepsSlice s p ⊎ GivesWay s p → not (keeps_slice s p) ≡ true → GivesWay s p
@@ -454,10 +404,10 @@ gives_up s c p = go (is_by_linux s) (asks_again s c p) refl refl
 
 pub only_gives_up : (s : State) (c : ℕ) (p : Option ℕ) (v : State) → GivesUp s c p v → v ≡ give_up s c p
 unfolding give_up
-only_gives_up s c p v (GivesUpByPlain e k) = k ∙ ap (λ b. given_up_as s c b) (sym (false_and (is_by_linux s) (asks_again s c p) e))
+only_gives_up s c p v (GivesUpByPlain e k) = k ∙ ap (λ b. given_up_as s c b) (sym (and_left (is_by_linux s) (asks_again s c p) e))
 only_gives_up s c p v (HasAsked n k) =
-    k ∙ ap (λ b. given_up_as s c b) (sym (and_false (is_by_linux s) (asks_again s c p) (false_from (asks_again s c p) (λ y. n (asks_is s c p y)))))
-only_gives_up s c p v (LooksAgain e h k) = k ∙ ap (λ b. given_up_as s c b) (sym (and_true (is_by_linux s) (asks_again s c p) e (asks_of s c p h)))
+    k ∙ ap (λ b. given_up_as s c b) (sym (and_right (is_by_linux s) (asks_again s c p) (false_from_ne_true (asks_again s c p) (λ y. n (asks_is s c p y)))))
+only_gives_up s c p v (LooksAgain e h k) = k ∙ ap (λ b. given_up_as s c b) (sym (and_from (is_by_linux s) (asks_again s c p) e (asks_of s c p h)))
 
 -- ---- idle processors
 
@@ -470,6 +420,6 @@ looks_if_idle s c = go (is_by_linux s) (is_idle s.world c) refl refl
     go true true x y = Looks x y refl
 
 pub only_looks_if_idle : (s : State) (c : ℕ) (v : State) → LooksIfIdle s c v → v ≡ kicked_if_idle s c
-only_looks_if_idle s c v (LooksByPlain x k) = k ∙ ap (λ b. given_up_as s c b) (sym (false_and (is_by_linux s) (is_idle s.world c) x))
-only_looks_if_idle s c v (IsBusy y k) = k ∙ ap (λ b. given_up_as s c b) (sym (and_false (is_by_linux s) (is_idle s.world c) y))
-only_looks_if_idle s c v (Looks x y k) = k ∙ ap (λ b. given_up_as s c b) (sym (and_true (is_by_linux s) (is_idle s.world c) x y))
+only_looks_if_idle s c v (LooksByPlain x k) = k ∙ ap (λ b. given_up_as s c b) (sym (and_left (is_by_linux s) (is_idle s.world c) x))
+only_looks_if_idle s c v (IsBusy y k) = k ∙ ap (λ b. given_up_as s c b) (sym (and_right (is_by_linux s) (is_idle s.world c) y))
+only_looks_if_idle s c v (Looks x y k) = k ∙ ap (λ b. given_up_as s c b) (sym (and_from (is_by_linux s) (is_idle s.world c) x y))

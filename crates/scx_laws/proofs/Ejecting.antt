@@ -163,7 +163,7 @@ if_stays : (b : Bool) (v w : WorldState) (x : Option Eject) → v.ejected ≡ x 
 if_stays true v w x p q = p
 if_stays false v w x p q = q
 
-put_stays : (w : WorldState) (t : ℕ) → (put_builtin w t).ejected ≡ w.ejected
+pub put_stays : (w : WorldState) (t : ℕ) → (put_builtin w t).ejected ≡ w.ejected
 put_stays w t = if_stays (nat_lt t (length w.tasks)) _ w w.ejected refl refl
 
 evicted_stays : (n : ℕ) (w : WorldState) → (after_evictions n w).ejected ≡ w.ejected

@@ -1,10 +1,12 @@
 -- A task comes into a queue as the rules allow, and in no other way; keys compare by sign, and claims end.
 use Rattle.std.proofs.Common.{◌≡◌, ◌≢◌, ℕ, ℤ, pos, negsuc, suc, ◌+◌, ◌-◌, ◌%◌, ◌^◌, ◌<◌, ◌≤◌, Bool, true, false, ◌==◌, ◌&&◌, nat_lt, nat_le, int_lt, ◌⊎◌, inl, inr, if◌then◌else◌, length, Option, Some, None, refl, sym, ◌∙◌, ap, subst, arith}
+use Rattle.scx_sched.proofs.Events.{is_task}
+use Rattle.std.proofs.lemmas.Option.{same_Some}
 use Rattle.std.specs.Int.{w64, cast_signed}
 use Rattle.std.proofs.Math.Facts.{to_z-neg}
 use Rattle.std.proofs.lemmas.Int.{to_z_pos}
 use Rattle.std.proofs.lemmas.Nat.Bits.{bit_at_clear_same, bit_at_clear_other}
-use Rattle.std.proofs.lemmas.Bool.{cases_eq, cases_lt, eq-eqb, ne_eqb}
+use Rattle.std.proofs.lemmas.Bool.{cases_eq, cases_lt, eq-eqb, ne_eqb, and_from, and_right, and_left, false_from_ne_true}
 use Rattle.std.proofs.lemmas.Bool.Decides.{nat_tests}
 use Rattle.scx_dsq.specs.Calls.{after_push}
 use Rattle.scx_dsq.specs.declared.entries.Rank.{Rank}
@@ -17,8 +19,8 @@ use Rattle.scx_sched_world.specs.World.{WorldState, with_switch, cycling_by_linu
 use Rattle.scx_sched_world.specs.Tasks.{with_slice, local_cpu, homed_at, given_slice, given_vtime, rank_by, after_preempt_of, after_preempt_at, after_preempt}
 use Rattle.scx_laws.specs.Entries.{GetsSlice, IsGiven, HasSome, HasNone, GetsOne, GetsVtime, AsLast, AsFirst, AtTime, HasPlace, IsLast, IsFirst, ByTime, BySign, IsNotLocal, HomesThere, InLocal, InOther, PreemptsThere, HasNoFlag, IntoOther, OfNobody, InItsCycle, TakesSlice, EntersQueue}
 use Rattle.scx_laws.specs.Allowing.{RulesAllowEntries, RulesAllowEntriesOnly, KeysCompareBySign, CyclesEndClaims}
-use Rattle.scx_laws.proofs.Readers.{this_is, this_of}
-use Rattle.scx_laws.proofs.Differing.{none_if_never, some_same, and_true, and_false, false_and, false_from, not_so, homes, only_homes}
+use Rattle.scx_laws.proofs.Readers.{this_of}
+use Rattle.scx_laws.proofs.Differing.{none_if_never, not_so, homes, only_homes, below, past}
 
 -- ---- slices
 
@@ -43,7 +45,7 @@ stays_sliced x i b c e = ap (λ k. if k then with_slice x 1 else x) (sym e)
 only_gets_slice : (x : Task) (i : Insert) (y : Task) → GetsSlice x i y → y ≡ given_slice x i
 only_gets_slice x i y (IsGiven l k) = k ∙ sliced_is x i false i.refills (x.slice == 0) (ne_eqb i.slice 0 (λ z. omega (arith, z, l))) refl refl
 only_gets_slice x i y (HasSome z l k) =
-    k ∙ stays_sliced x i i.refills false (and_false i.refills false refl) ∙ sliced_is x i true i.refills false (eq-eqb i.slice 0 z) refl (ne_eqb x.slice 0 (λ e. omega (arith, e, l)))
+    k ∙ stays_sliced x i i.refills false (and_right i.refills false refl) ∙ sliced_is x i true i.refills false (eq-eqb i.slice 0 z) refl (ne_eqb x.slice 0 (λ e. omega (arith, e, l)))
 only_gets_slice x i y (HasNone z e k) = k ∙ stays_sliced x i false (x.slice == 0) refl ∙ sliced_is x i true false (x.slice == 0) (eq-eqb i.slice 0 z) e refl
 only_gets_slice x i y (GetsOne z e s k) = k ∙ sliced_is x i true true true (eq-eqb i.slice 0 z) e (eq-eqb x.slice 0 s)
 
@@ -91,7 +93,7 @@ local_is w q c e = go (nat_le (local_on 0) q) (nat_lt q (local_on (length w.cpus
   where
     go : (a b : Bool) → nat_le (local_on 0) q ≡ a → nat_lt q (local_on (length w.cpus)) ≡ b → cpu_as q (a && b) ≡ Some c → IsLocal w q c
     go true true x y z =
-        let is : q - local_on 0 ≡ c = some_same (q - local_on 0) c z in
+        let is : q - local_on 0 ≡ c = same_Some (q - local_on 0) c z in
         let low : local_on 0 ≤ q = grind (arith, nat_tests, x) in
         let high : q < local_on (length w.cpus) = grind (arith, nat_tests, y) in
         record { within = omega (arith, is, low, high); queue = omega (arith, is, low) }
@@ -103,7 +105,7 @@ local_of w q c l e =
     let low : nat_le (local_on 0) q ≡ true = grind (arith, nat_tests, e) in
     let high : nat_lt q (local_on (length w.cpus)) ≡ true = grind (arith, nat_tests, e, l) in
     let is : q - local_on 0 ≡ c = omega (arith, e) in
-    ap (λ b. cpu_as q b) (and_true (nat_le (local_on 0) q) (nat_lt q (local_on (length w.cpus))) low high) ∙ ap (λ x. Some x) is
+    ap (λ b. cpu_as q b) (and_from (nat_le (local_on 0) q) (nat_lt q (local_on (length w.cpus))) low high) ∙ ap (λ x. Some x) is
 
 local_none : (w : WorldState) (q : ℕ) → local_cpu w q ≡ None → IsNotLocal w q
 local_none w q e c l k = let bad : None ≡ Some c = sym e ∙ local_of w q c l k in absurd (cc)
@@ -134,7 +136,7 @@ preempts_there : (w : WorldState) (i : Insert) → PreemptsThere w i (after_pree
 preempts_there w i = go i.preempts refl
   where
     taken : i.preempts ≡ true → (c : ℕ) → c < length w.cpus → i.queue ≡ local_on c → (t : ℕ) → running w c ≡ Some t → (b : Bool) → is_this c w.cycling ≡ b → PreemptsThere w i (taken_as w c t b)
-    taken e c l q t r true x = InItsCycle c l q (this_is c w.cycling x) refl
+    taken e c l q t r true x = InItsCycle c l q (is_task c w.cycling x) refl
     taken e c l q t r false x = TakesSlice c t e l q r (λ y. not_so (is_this c w.cycling) x (this_of c w.cycling y)) refl
 
     of : i.preempts ≡ true → (c : ℕ) → c < length w.cpus → i.queue ≡ local_on c → (o : Option ℕ) → running w c ≡ o → PreemptsThere w i (after_preempt_of w c o)
@@ -167,7 +169,7 @@ only_preempts_there w i v (IntoOther n k) = k ∙ no_preempt w i i.preempts (ap 
 only_preempts_there w i v (OfNobody c l q r k) = k ∙ no_preempt w i i.preempts (preempt_at w i c None l q r)
 only_preempts_there w i v (InItsCycle c l q e k) = k ∙ no_preempt w i i.preempts (preempt_at w i c (running w c) l q refl ∙ in_cycle w c (running w c) e)
 only_preempts_there w i v (TakesSlice c t e l q r n k) =
-    k ∙ ap (λ b. taken_as w c t b) (sym (false_from (is_this c w.cycling) (λ x. n (this_is c w.cycling x)))) ∙ sym (preempt_at w i c (Some t) l q r) ∙ ap (λ b. preempted_as w i b) (sym e)
+    k ∙ ap (λ b. taken_as w c t b) (sym (false_from_ne_true (is_this c w.cycling) (λ x. n (is_task c w.cycling x)))) ∙ sym (preempt_at w i c (Some t) l q r) ∙ ap (λ b. preempted_as w i b) (sym e)
 
 -- ---- all of it
 
@@ -237,30 +239,18 @@ compare m n a b x y p q r s e = ap (λ k. nat_lt k ((n + 2 ^ 63) % 2 ^ 64)) r �
 same_lt : (a b c d : ℕ) → (a < b → c < d) → (c < d → a < b) → nat_lt a b ≡ nat_lt c d
 same_lt a b c d f g = go (cases_lt a b) (cases_lt c d)
   where
-    yes : (x y : ℕ) → x < y → nat_lt x y ≡ true
-    yes x y l = grind (arith, nat_tests, l)
-
-    no : (x y : ℕ) → y ≤ x → nat_lt x y ≡ false
-    no x y l = grind (arith, nat_tests, l)
-
     go : (a < b) ⊎ (b ≤ a) → (c < d) ⊎ (d ≤ c) → nat_lt a b ≡ nat_lt c d
-    go (inl x) (inl y) = yes a b x ∙ sym (yes c d y)
-    go (inr x) (inr y) = no a b x ∙ sym (no c d y)
+    go (inl x) (inl y) = below a b x ∙ sym (below c d y)
+    go (inr x) (inr y) = past a b x ∙ sym (past c d y)
     go (inl x) (inr y) = absurd (omega (arith, f x, y))
     go (inr x) (inl y) = absurd (omega (arith, g y, x))
-
-is_less : (x y : ℕ) → x < y → nat_lt x y ≡ true
-is_less x y l = grind (arith, nat_tests, l)
-
-not_less : (x y : ℕ) → y ≤ x → nat_lt x y ≡ false
-not_less x y l = grind (arith, nat_tests, l)
 
 signs_compare : (m n : ℕ) → m < 2 ^ 64 → n < 2 ^ 64 → BySignOf m → BySignOf n → nat_lt ((m + 2 ^ 63) % 2 ^ 64) ((n + 2 ^ 63) % 2 ^ 64) ≡ int_lt (cast_signed w64 m) (cast_signed w64 n)
 signs_compare m n u v (Above a b c) (Above d e f) = compare m n (m + 2 ^ 63) (n + 2 ^ 63) (pos m) (pos n) b e c f (same_lt (m + 2 ^ 63) (n + 2 ^ 63) m n (λ l. omega (arith, l)) (λ l. omega (arith, l)))
 signs_compare m n u v (Above a b c) (Below d e f) =
-    compare m n (m + 2 ^ 63) (n - 2 ^ 63) (pos m) (negsuc (2 ^ 64 - 1 - n)) b e c f (not_less (m + 2 ^ 63) (n - 2 ^ 63) (omega (arith, v, d)))
+    compare m n (m + 2 ^ 63) (n - 2 ^ 63) (pos m) (negsuc (2 ^ 64 - 1 - n)) b e c f (past (m + 2 ^ 63) (n - 2 ^ 63) (omega (arith, v, d)))
 signs_compare m n u v (Below a b c) (Above d e f) =
-    compare m n (m - 2 ^ 63) (n + 2 ^ 63) (negsuc (2 ^ 64 - 1 - m)) (pos n) b e c f (is_less (m - 2 ^ 63) (n + 2 ^ 63) (omega (arith, u, a)))
+    compare m n (m - 2 ^ 63) (n + 2 ^ 63) (negsuc (2 ^ 64 - 1 - m)) (pos n) b e c f (below (m - 2 ^ 63) (n + 2 ^ 63) (omega (arith, u, a)))
 signs_compare m n u v (Below a b c) (Below d e f) =
     compare m n (m - 2 ^ 63) (n - 2 ^ 63) (negsuc (2 ^ 64 - 1 - m)) (negsuc (2 ^ 64 - 1 - n)) b e c f
     (same_lt (m - 2 ^ 63) (n - 2 ^ 63) (2 ^ 64 - 1 - n) (2 ^ 64 - 1 - m) (λ l. omega (arith, l, a, d, u, v)) (λ l. omega (arith, l, a, d, u, v)))
@@ -290,11 +280,11 @@ claims_end w c l = (go (is_by_linux w) refl, λ d m n. other d m n (is_by_linux 
     v = with_cycling w (Some c)
 
     go : (b : Bool) → is_by_linux w ≡ b → is_claimed v c ≡ false
-    go false e = false_and (is_by_linux v) (is_in_set v.claimed c) (cycling_linux w c ∙ e)
-    go true e = and_false (is_by_linux v) (is_in_set v.claimed c) (ap (λ s. is_in_set s c) (cycling_claimed w c e) ∙ ap (λ b. b == 1) (bit_at_clear_same w64 w.claimed.0 c l))
+    go false e = and_left (is_by_linux v) (is_in_set v.claimed c) (cycling_linux w c ∙ e)
+    go true e = and_right (is_by_linux v) (is_in_set v.claimed c) (ap (λ s. is_in_set s c) (cycling_claimed w c e) ∙ ap (λ b. b == 1) (bit_at_clear_same w64 w.claimed.0 c l))
 
     other : (d : ℕ) → d < 64 → d ≢ c → (b : Bool) → is_by_linux w ≡ b → is_claimed v d ≡ is_claimed w d
-    other d m n false e = false_and (is_by_linux v) (is_in_set v.claimed d) (cycling_linux w c ∙ e) ∙ sym (false_and (is_by_linux w) (is_in_set w.claimed d) e)
+    other d m n false e = and_left (is_by_linux v) (is_in_set v.claimed d) (cycling_linux w c ∙ e) ∙ sym (and_left (is_by_linux w) (is_in_set w.claimed d) e)
     other d m n true e =
         ap (λ b. b && is_in_set v.claimed d) (cycling_linux w c)
         ∙ ap (λ b. is_by_linux w && b) (ap (λ s. is_in_set s d) (cycling_claimed w c e) ∙ ap (λ b. b == 1) (bit_at_clear_other w64 w.claimed.0 c l d m n))

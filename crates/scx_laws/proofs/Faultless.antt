@@ -11,10 +11,12 @@ use Rattle.scx_sched_world.specs.declared.eject.Eject.TheVariants as cause
 use Rattle.scx_sched_machine.specs.declared.events.Event.{Event}
 use Rattle.scx_sched_machine.specs.declared.events.Event.TheVariants.{Wake, Sleep, Tick, Clock, SetWeight, SetTaskWeight}
 use Rattle.scx_sched_machine.specs.Steps.{State}
+use Rattle.scx_sched_policy.specs.Policy.{PolicyState}
+use Rattle.scx_weights.specs.Hierarchy.{Hierarchy}
 use Rattle.scx_sched.specs.Sim.{SimState, after_event}
 use Rattle.scx_sched.proofs.Seen.{next_seen}
 use Rattle.scx_laws.specs.Runs.{after_events}
-use Rattle.scx_laws.specs.Lines.{OnlyWaitsEject, IdlesUnlessLate, StaysAwake, NobodyOvertakes, NobodyCutsIn, OnlyFewerAhead}
+use Rattle.scx_laws.specs.Lines.{IsLineBegun, OnlyWaitsEject, IdlesUnlessLate, StaysAwake, NobodyOvertakes, NobodyCutsIn, OnlyFewerAhead}
 use Rattle.scx_laws.proofs.Sound.{IsFirm, firm_first, firm_step, firm_after}
 use Rattle.scx_laws.proofs.Keeping.{KeepsQueue, IsInLineWith, keeps_queue}
 use Rattle.scx_laws.proofs.Overtaking.{Follows, IsOther, keeps_following, WereThere, keeps_there, fewer}
@@ -48,23 +50,23 @@ walk_firm MaySleep I k s events may f h = walk_all MaySleep I k (λ w q c t e. (
 line_after : (slice : ℕ) (s : SimState) (events : List Event) → IsFirm s → IsKeptInLine slice s.state → IsKeptInLine slice (after_events s events).state
 line_after slice s events f h = walk_firm (λ t. Unit {0}) (IsKeptInLine slice) (keeps_line slice) s events (may_all events) f h
 
+line_run : (slice : ℕ) (p : PolicyState) (tree : Hierarchy) (cpus : ℕ) (s : SimState) → IsLineBegun slice p tree cpus s → (events : List Event) → IsKeptInLine slice (after_events s events).state
+line_run slice p tree cpus s r events = line_after slice s events (firm_first p tree cpus s r.begun) (line_begins slice p tree cpus r.line r.rules r.begun.shape s.state r.begun.first.0)
+
 -- only a wait puts such a policy out of force
 pub only_waits_eject : OnlyWaitsEject
-only_waits_eject slice p tree cpus s events x line plain b out = (line_after slice s events (firm_first p tree cpus s b) (line_begins slice p tree cpus line plain b.shape s.state b.first.0)).1.stall x out
+only_waits_eject slice p tree cpus s events x r out = (line_run slice p tree cpus s r events).1.stall x out
 
 -- so the law of served queues holds unless a task waited too long
 pub idles_unless_late : IdlesUnlessLate
-idles_unless_late slice p tree cpus s events v c line plain free b ok at idle in_time =
-    none_is_left (0 ∷ []) p tree cpus s events v c (record { dispatch = line.dispatch; is_there = line.dispatches; serves = line.serves }) plain free b ok at (in_force final.state.world.ejected refl) idle
+idles_unless_late slice p tree cpus s events v c r free ok at idle in_time =
+    none_is_left (0 ∷ []) p tree cpus s events v c (record { dispatch = r.line.dispatch; is_there = r.line.dispatches; serves = r.line.serves }) r.rules free r.begun ok at (in_force final.state.world.ejected refl) idle
   where
     final : SimState
     final = after_event (after_events s events) v
 
-    firm : IsFirm s
-    firm = firm_first p tree cpus s b
-
     lined : IsKeptInLine slice final.state
-    lined = line_after slice (after_events s events) (v ∷ []) (firm_after s events firm) (line_after slice s events firm (line_begins slice p tree cpus line plain b.shape s.state b.first.0))
+    lined = line_after slice (after_events s events) (v ∷ []) (firm_after s events (firm_first p tree cpus s r.begun)) (line_run slice p tree cpus s r events)
 
     in_force : (o : Option Eject) → final.state.world.ejected ≡ o → final.state.world.ejected ≡ None
     in_force None e = e
@@ -97,50 +99,37 @@ other_all t u first second here there before (SetWeight g x ∷ es) h = (tt, oth
 other_all t u first second here there before (SetTaskWeight y x ∷ es) h = (tt, other_all t u first second here there before es h)
 
 pub none_overtakes : NobodyOvertakes
-none_overtakes slice p tree cpus s events more t u first second line plain b ahead awake force is =
-    let firm = firm_first p tree cpus s b in
-    let later = firm_after s events firm in
-    let lined = line_after slice s events firm (line_begins slice p tree cpus line plain b.shape s.state b.first.0) in
+none_overtakes slice p tree cpus s events more t u first second r ahead awake force is =
+    let later = firm_after s events (firm_first p tree cpus s r.begun) in
     let kept = queue_after slice (IsOther t u first second ahead.here ahead.there ahead.before) (Follows t u first second ahead.here ahead.there ahead.before) (keeps_following t u first second ahead.here ahead.there ahead.before) (after_events s events) more
-    (other_all t u first second ahead.here ahead.there ahead.before more awake) later lined (later.fine.sound.stamped t first ahead.front, λ still. ahead.back) force in
+    (other_all t u first second ahead.here ahead.there ahead.before more awake) later (line_run slice p tree cpus s r events) (later.fine.sound.stamped t first ahead.front, λ still. ahead.back) force in
     kept.1 is
 
--- no task cuts in
-pub none_cuts_in : NobodyCutsIn
-none_cuts_in slice p tree cpus s events more t u mine other line plain b at here force ahead =
-    let firm = firm_first p tree cpus s b in
-    let later = firm_after s events firm in
-    let lined = line_after slice s events firm (line_begins slice p tree cpus line plain b.shape s.state b.first.0) in
+-- who comes before a task of the line was there before
+was_there : (slice : ℕ) (p : PolicyState) (tree : Hierarchy) (cpus : ℕ) (s : SimState) (events more : List Event) (t : ℕ) (mine : Entry) → IsLineBegun slice p tree cpus s → entry_of (after_events s events).state.world.queues t ≡ Some mine → mine.queue ≡ 0 → (after_events (after_events s events) more).state.world.ejected ≡ None
+    → (u : ℕ) (other : Entry) → entry_of (after_events (after_events s events) more).state.world.queues u ≡ Some other → is_before other mine ≡ true → entry_of (after_events s events).state.world.queues u ≡ Some other
+was_there slice p tree cpus s events more t mine r at here force =
+    let later = firm_after s events (firm_first p tree cpus s r.begun) in
+    let lined = line_run slice p tree cpus s r events in
     let before = (after_events s events).state.world.queues in
     let fifo = in_order mine here (ap (λ (o : Option Entry). clashes 0 Fifo o) (sym at) ∙ lined.1.ready.alike t) in
     let kept = queue_after slice (λ x. Unit {0}) (WereThere before mine fifo) (keeps_there before mine fifo) (after_events s events) more (may_all more) later lined (later.fine.sound.stamped t mine at, λ v y is early. is) force in
-    kept.1 u other ahead.front ahead.before
+    kept.1
 
--- no more tasks come before a task
+-- so no task cuts in
+pub none_cuts_in : NobodyCutsIn
+none_cuts_in slice p tree cpus s events more t u mine other r at here force ahead = was_there slice p tree cpus s events more t mine r at here force u other ahead.front ahead.before
+
+-- and no more tasks come before a task
 pub only_fewer_ahead : OnlyFewerAhead
-only_fewer_ahead slice p tree cpus s events more t mine line plain b at here force = fewer (is_ahead 0 mine) (is_ahead 0 mine) refl now.entries before.entries (λ u e. go u (entry_of now u) refl e)
+only_fewer_ahead slice p tree cpus s events more t mine r at here force = fewer (is_ahead 0 mine) (is_ahead 0 mine) refl now.entries before.entries (λ u e. go u (entry_of now u) refl e)
   where
-    firm : IsFirm s
-    firm = firm_first p tree cpus s b
-
-    later : IsFirm (after_events s events)
-    later = firm_after s events firm
-
-    lined : IsKeptInLine slice (after_events s events).state
-    lined = line_after slice s events firm (line_begins slice p tree cpus line plain b.shape s.state b.first.0)
-
     before : QueueState
     before = (after_events s events).state.world.queues
 
     now : QueueState
     now = (after_events (after_events s events) more).state.world.queues
 
-    fifo : same_sort mine.rank Fifo ≡ true
-    fifo = in_order mine here (ap (λ (o : Option Entry). clashes 0 Fifo o) (sym at) ∙ lined.1.ready.alike t)
-
-    kept : WereThere before mine fifo now
-    kept = queue_after slice (λ x. Unit {0}) (WereThere before mine fifo) (keeps_there before mine fifo) (after_events s events) more (may_all more) later lined (later.fine.sound.stamped t mine at, λ v y is early. is) force
-
     go : (u : ℕ) (o : Option Entry) → entry_of now u ≡ o → is_ahead 0 mine o ≡ true → is_ahead 0 mine (entry_of before u) ≡ true
     go u None is e = absurd (cc)
-    go u (Some other) is e = ap (λ (k : Option Entry). is_ahead 0 mine k) (kept.1 u other is (and_parts (other.queue == 0) (is_before other mine) e).1) ∙ e
+    go u (Some other) is e = ap (λ (k : Option Entry). is_ahead 0 mine k) (was_there slice p tree cpus s events more t mine r at here force u other is (and_parts (other.queue == 0) (is_before other mine) e).1) ∙ e

@@ -1,6 +1,6 @@
 -- What an event does is allowed, and nothing else is.
 use Rattle.std.proofs.Common.{◌≡◌, ℕ, zero, suc, ◌<◌, cond, Bool, true, false, not, ◌==◌, ◌&&◌, ◌⊎◌, inl, inr, if◌then◌else◌, [], ◌∷◌, Option, Some, None, is_some, is_none, refl, sym, ◌∙◌, ap, subst, arith, length, nat_lt, nat_le}
-use Rattle.std.proofs.lemmas.Bool.{cases_eq, eq-eqb, ne_eqb}
+use Rattle.std.proofs.lemmas.Bool.{cases_eq, eq-eqb, ne_eqb, and_from, and_right, false_from_ne_true}
 use Rattle.std.proofs.lemmas.Bool.Decides.{nat_tests}
 use Rattle.scx_dsq.specs.Queues.{len_of, front_of, behind_of}
 use Rattle.scx_weights.specs.Hierarchy.{Hierarchy, with_weight, with_own_weight}
@@ -13,41 +13,41 @@ use Rattle.scx_sched_world.specs.declared.eject.Eject.TheVariants as cause
 use Rattle.scx_sched_world.specs.declared.eject.Cause.{Cause}
 use Rattle.scx_sched_world.specs.declared.notes.What.TheVariants as note
 use Rattle.scx_sched_world.specs.Ids.{parked_queue}
-use Rattle.scx_sched_world.specs.World.{WorldState, are_linux, is_throttled, with_tree, with_switch, task_at, waits, running, cpu_of, is_idle, may_run, first_home, has_one_cpu, choice, default_choice, after_claim, note_now, at_callback}
+use Rattle.scx_sched_world.specs.World.{WorldState, are_linux, is_throttled, with_tree, task_at, waits, running, cpu_of, is_idle, may_run, first_home, has_one_cpu, choice, default_choice, after_claim, note_now, at_callback}
 use Rattle.scx_sched_world.specs.Tasks.{homed, to_local, let_go, after_reweigh, after_own_weight}
 use Rattle.scx_sched_world.specs.Waits.{first_overdue}
 use Rattle.scx_sched_machine.specs.declared.events.Event.TheVariants.{Wake, Sleep, Tick, Clock, SetWeight, SetTaskWeight}
 use Rattle.scx_sched_world.specs.Helpers.{with_insert}
 use Rattle.scx_sched_machine.specs.Steps.{State, Stepped, with_world, stays, after, one_after_other, is_by_linux, kicked_if_idle}
 use Rattle.scx_sched_machine.specs.Ejecting.{ejected_for}
-use Rattle.scx_sched_machine.specs.Callbacks.{call_ending, after_callback, cause_of, unless_ejected, acting, call_back, call_by_linux, answered_by, one_task, task_cpu_and_0, task_and_number}
+use Rattle.scx_sched_machine.specs.Callbacks.{call_ending, after_callback, cause_of, unless_ejected, acting, call_back, call_by_linux, answered_by, task_cpu_and_0, task_and_number}
 use Rattle.scx_sched_machine.specs.Put.{enters, put}
 use Rattle.scx_sched_machine.specs.Parking.{park, let_go_one, let_go_from, let_all_go}
-use Rattle.scx_sched_machine.specs.Cycle.{after_stopping, cycle}
+use Rattle.scx_sched_machine.specs.Cycle.{cycle}
 use Rattle.scx_sched_machine.specs.declared.events.Refused.TheVariants.{UnknownGroup, BadWeight}
 use Rattle.scx_sched_machine.specs.declared.events.Event.{Event}
 use Rattle.scx_sched_machine.specs.Rounds.{with_rounds}
 use Rattle.scx_sched_machine.specs.Events.{refusal, cpu_or_home, answered_cpu, target, insert_or_put, wake_target, settle, inserted_by_choice, chosen, ask_target, asks_target, settle_at_home, select, comes_to, while_in_force, told_runnable, from_waker, wake, told_of_sleep, falls_asleep, looks_after_sleep, leaves_cpu, leaves_queue, sleep_from_cpu, sleep_from_queue, sleep_from, sleep, throttle, ends_slices, expire, use_up, tick_heard, count_down, tick_idle, tick_of, tick, overdue, eject_if_stalled, watch, timers_and_watchdog, clock, restore_flag, change_flags, takes_weight, changes_weight, reweigh_running, reweigh_waiting, reweigh_off_cpu, reweigh_at, reweigh_by_linux, reweigh, own_step}
 use Rattle.scx_sched_machine.specs.Firing.{fire_all}
 use Rattle.scx_laws.specs.Custody.{LeavesQueue}
-use Rattle.scx_laws.specs.Cycles.{noting, silent, gone_off, parking}
+use Rattle.scx_laws.specs.Cycles.{noting, silent, parking}
 use Rattle.scx_vm.specs.Programs.{VerifiedProgram}
 use Rattle.scx_sched_world.specs.declared.call.Insert.{Insert}
-use Rattle.scx_laws.specs.Events.{after_waking, select_called, select_answered, IsTarget, Is_ejected, NoCallback, Named, NamedOutside, InsertsByChoice, AsByPlain, HasCallback, NoneChosen, IsChosen, Selects, Asks_by_plain, Asks_of_several, Is_only_one, TellsRunnable, TellsNobody, TellsPolicy, TellsLast, Settles, WasInserted, WasPut, is_woken, Rouses, IdleTarget, BusyTarget, ByLinux, Wakes, LeavesCpu, asleep, FallsAsleep, Sleeps, FromQueue, FromCpu, ran_on, charged, UsesUp, IsThrottled, RunsOn, RunsOut, RunsToTick, Ticks, NobodyRuns, SleepsOn, Runs, after_clock, LetsGo, Enough, NoMore, StaysParked, IsLetGo, LetsAllGo, Watches, Is_out, In_time, Too_late, Ages, SetsWeight, IsSet, HasNoHome, IsOutside, TakesWeight, ChangesWeight, Reweighs, WhileItRuns, WhileItWaits, WhileItRests, on_first_cpu, Weighs, Weighs_by_plain, Weighs_by_linux, Does}
+use Rattle.scx_laws.specs.Events.{after_waking, select_called, select_answered, IsTarget, Is_ejected, NoCallback, Named, NamedOutside, InsertsByChoice, AsByPlain, HasCallback, NoneChosen, IsChosen, Selects, Asks_by_plain, Asks_of_several, Is_only_one, TellsRunnable, TellsNobody, TellsPolicy, TellsLast, Settles, WasInserted, WasPut, is_woken, Rouses, IdleTarget, BusyTarget, ByLinux, Wakes, asleep, FallsAsleep, Sleeps, FromQueue, FromCpu, ran_on, charged, UsesUp, IsThrottled, RunsOn, RunsOut, RunsToTick, Ticks, NobodyRuns, SleepsOn, Runs, after_clock, LetsGo, Enough, NoMore, StaysParked, IsLetGo, LetsAllGo, Watches, Is_out, In_time, Too_late, Ages, SetsWeight, IsSet, HasNoHome, IsOutside, TakesWeight, ChangesWeight, Reweighs, WhileItRuns, WhileItWaits, WhileItRests, on_first_cpu, Weighs, Weighs_by_plain, Weighs_by_linux, Does}
 use Rattle.scx_laws.specs.Differences.{EndsSlices}
 use Rattle.scx_laws.specs.Helpers.{IsChoice, with_claim, MakesClaim}
 use Rattle.scx_laws.specs.Allowing.{RulesAllowEvents, RulesAllowEventsOnly}
 use Rattle.scx_laws.specs.BoundTasks.{HasOneCpu}
 use Rattle.scx_laws.proofs.BindingTasks.{allowed_is, allowed_of, outside_is, outside_of, is_home, only_home_of, one_is, one_of}
 use Rattle.scx_laws.proofs.PickingIdle.{is_choice, only_choice, is_default, only_default, only_claims}
-use Rattle.scx_laws.proofs.Differing.{below, and_true, and_false, false_from, not_so, homes, only_homes, begins_switch, only_begins_switch, tells_waker, only_tells_waker, calls_if_there, only_calls_if_there, hears, only_hears, ends_is, ends_of, tells_sleep, only_tells_sleep, looks_if_idle, only_looks_if_idle}
+use Rattle.scx_laws.proofs.Differing.{below, not_so, homes, only_homes, tells_waker, only_tells_waker, calls_if_there, only_calls_if_there, hears, only_hears, ends_is, ends_of, tells_sleep, only_tells_sleep, looks_if_idle, only_looks_if_idle}
 use Rattle.scx_laws.proofs.Departing.{departs, only_departs}
 use Rattle.scx_laws.proofs.Ringing.{fires_every, only_fires_every}
 use Rattle.scx_laws.proofs.Refusing.{good, bad, is_weight}
 use Rattle.scx_laws.proofs.Rounding.{is_followed, only_followed}
 use Rattle.scx_laws.proofs.Ejecting.{ejects, only_ejects, no_cause, NamesCpu, names_cpu}
 use Rattle.scx_laws.proofs.Waiting.{is_first, nobody_late, only_first, only_nobody}
-use Rattle.scx_laws.proofs.Cycling.{puts, only_puts, stops, only_stops, cycles, only_cycles}
+use Rattle.scx_laws.proofs.Cycling.{puts, only_puts, leaves_now, only_leaves_now, stop_heard, hears_stop, only_hears_stop, run_heard, hears_run, only_hears_run, cycles, only_cycles}
 
 -- ---- wake
 
@@ -124,7 +124,7 @@ chosen_by s t b o = with_world s (if b then inserted_by_choice (after_claim s.wo
 
 -- a policy that is ejected goes by plain rules
 out_is_plain : (s : State) (x : Eject) → s.world.ejected ≡ Some x → is_by_linux s ≡ false
-out_is_plain s x e = and_false (are_linux s.world.rules) (is_none s.world.ejected) (ap (λ o. is_none o) e)
+out_is_plain s x e = and_right (are_linux s.world.rules) (is_none s.world.ejected) (ap (λ o. is_none o) e)
 
 chosen_plain : (s : State) (t : ℕ) → is_by_linux s ≡ false → chosen_by s t (is_by_linux s) (choice s.world t) ≡ s
 chosen_plain s t e = ap (λ b. chosen_by s t b (choice s.world t)) e
@@ -209,10 +209,10 @@ asks_plain : (s : State) (t : ℕ) → is_by_linux s ≡ false → asks_target s
 asks_plain s t e = ap (λ b. not (b && has_one_cpu s.world t)) e
 
 asks_several : (s : State) (t : ℕ) → ¬ HasOneCpu s.world t → asks_target s t ≡ true
-asks_several s t d = ap (λ b. not b) (and_false (is_by_linux s) (has_one_cpu s.world t) (false_from (has_one_cpu s.world t) (λ y. d (one_is s.world t y))))
+asks_several s t d = ap (λ b. not b) (and_right (is_by_linux s) (has_one_cpu s.world t) (false_from_ne_true (has_one_cpu s.world t) (λ y. d (one_is s.world t y))))
 
 asks_nobody : (s : State) (t : ℕ) → is_by_linux s ≡ true → HasOneCpu s.world t → asks_target s t ≡ false
-asks_nobody s t lin h = ap (λ b. not b) (and_true (is_by_linux s) (has_one_cpu s.world t) lin (one_of s.world t h))
+asks_nobody s t lin h = ap (λ b. not b) (and_from (is_by_linux s) (has_one_cpu s.world t) lin (one_of s.world t h))
 
 record Selected (s : State) (t : ℕ) : Type 0 where
   cpu : ℕ
@@ -399,25 +399,6 @@ only_wakes s t r h =
 
 -- ---- sleep
 
-leaves : (s : State) (c t n : ℕ) → LeavesCpu s c t n (leaves_cpu s c t n)
-unfolding leaves_cpu
-leaves s c t n = record {
-  switching = with_switch s.world c;
-  switches = begins_switch s.world c;
-  stopped = after_stopping (gone_off (with_world s (with_switch s.world c)) c t) c t n;
-  stops = stops (gone_off (with_world s (with_switch s.world c)) c t) c t n;
-  all = refl;
-}
-
-abbrev stop_note : State → ℕ → ℕ → Stepped → Stepped
-stop_note s c t r = after (note_now s.world (note.Stop t c) ∷ []) r
-
-only_leaves : (s : State) (c t n : ℕ) (r : Stepped) → LeavesCpu s c t n r → r ≡ leaves_cpu s c t n
-unfolding leaves_cpu
-only_leaves s c t n r h =
-    h.all ∙ ap (λ x. stop_note s c t x) (only_stops (gone_off (with_world s h.switching) c t) c t n h.stopped h.stops)
-    ∙ ap (λ w. stop_note s c t (after_stopping (gone_off (with_world s w) c t) c t n)) (only_begins_switch s.world c h.switching h.switches)
-
 falls : (s : State) (t c : ℕ) → FallsAsleep s t c (falls_asleep s t c)
 unfolding falls_asleep
 falls s t c = calls_if_there (asleep s t) callback.Quiescent (task_and_number t 1) t c
@@ -445,7 +426,7 @@ sleeps s t = go (cpu_of s.world t) refl
         let l = leaves_cpu s c t 0 in
         let g = falls_asleep l.state t c in
         let v = told_of_sleep g.state t in
-        FromCpu c l g (cycle v c None true) v e (leaves s c t 0) (falls l.state t c) (tells_sleep g.state t) (cycles v c None true) refl
+        FromCpu c l g (cycle v c None true) v e (leaves_now s c t 0) (falls l.state t c) (tells_sleep g.state t) (cycles v c None true) refl
 
 only_sleeps : (s : State) (t : ℕ) (r : Stepped) → Sleeps s t r → r ≡ sleep s t
 unfolding sleep sleep_from_queue sleep_from_cpu looks_after_sleep
@@ -455,7 +436,7 @@ only_sleeps s t r (FromQueue l g e h f k) =
 only_sleeps s t r (FromCpu c l g found v e h f w y k) =
     rw e (k ∙ ap (λ z. slept s t l g z) (only_cycles v c None true found y) ∙ ap (λ (z : State). slept s t l g (cycle z c None true)) (only_tells_sleep g.state t v w)
     ∙ ap (λ (z : Stepped). slept s t l z (cycle (told_of_sleep z.state t) c None true)) (only_falls l.state t c g f)
-    ∙ ap (λ (z : Stepped). let q = falls_asleep z.state t c in slept s t z q (cycle (told_of_sleep q.state t) c None true)) (only_leaves s c t 0 l h))
+    ∙ ap (λ (z : Stepped). let q = falls_asleep z.state t c in slept s t z q (cycle (told_of_sleep q.state t) c None true)) (only_leaves_now s c t 0 l h))
 
 -- ---- tick
 
@@ -479,7 +460,7 @@ expires_out : (v : State) (c t : ℕ) → (task_at v.world t).slice ≡ 0 → En
 expires_out v c t z h = sym (expired_is v c t true true (eq-eqb (task_at v.world t).slice 0 z) (ends_of v h))
 
 expires_later : (v : State) (c t : ℕ) → ¬ EndsSlices v → expire v c t ≡ stays v
-expires_later v c t n = sym (expired_is v c t ((task_at v.world t).slice == 0) false refl (false_from (ends_slices v) (λ e. n (ends_is v e)))) ∙ ap (λ b. if b then cycle v c (Some t) true else stays v) (and_false ((task_at v.world t).slice == 0) false refl)
+expires_later v c t n = sym (expired_is v c t ((task_at v.world t).slice == 0) false refl (false_from_ne_true (ends_slices v) (λ e. n (ends_is v e)))) ∙ ap (λ b. if b then cycle v c (Some t) true else stays v) (and_right ((task_at v.world t).slice == 0) false refl)
 
 uses_up : (s : State) (c t : ℕ) → UsesUp s c t (use_up s c t)
 unfolding use_up throttle park
@@ -497,7 +478,7 @@ uses_up s c t = by (is_throttled v.world t) refl
     out free (inr x) = let l : 0 < (task_at v.world t).slice = omega (arith, x) in rw (expires_on v c t l) (RunsOn free l refl)
 
     up : is_throttled v.world t ≡ true → UsesUp s c t (throttle v c t)
-    up over = let l = leaves_cpu v c t 1 in IsThrottled l (cycle (parking l.state t).state c None true) over (leaves v c t 1) (cycles (parking l.state t).state c None true) refl
+    up over = let l = leaves_cpu v c t 1 in IsThrottled l (cycle (parking l.state t).state c None true) over (leaves_now v c t 1) (cycles (parking l.state t).state c None true) refl
 
     by : (b : Bool) → is_throttled v.world t ≡ b → UsesUp s c t (counted_as v c t b)
     by true x = up x
@@ -508,7 +489,7 @@ unfolding use_up throttle park
 only_uses_up s c t r (RunsToTick free n k) = k ∙ sym (expires_later (charged s t) c t n) ∙ ap (λ b. counted_as (charged s t) c t b) (sym free)
 only_uses_up s c t r (IsThrottled l found over h y k) =
     k ∙ ap (λ z. thrown c t l z) (only_cycles (parking l.state t).state c None true found y)
-    ∙ ap (λ (z : Stepped). thrown c t z (cycle (parking z.state t).state c None true)) (only_leaves (charged s t) c t 1 l h) ∙ ap (λ b. counted_as (charged s t) c t b) (sym over)
+    ∙ ap (λ (z : Stepped). thrown c t z (cycle (parking z.state t).state c None true)) (only_leaves_now (charged s t) c t 1 l h) ∙ ap (λ b. counted_as (charged s t) c t b) (sym over)
 only_uses_up s c t r (RunsOn free l k) = k ∙ sym (expires_on (charged s t) c t l) ∙ ap (λ b. counted_as (charged s t) c t b) (sym free)
 only_uses_up s c t r (RunsOut free z h y) = only_cycles (charged s t) c (Some t) true r y ∙ sym (expires_out (charged s t) c t z h) ∙ ap (λ b. counted_as (charged s t) c t b) (sym free)
 
@@ -704,14 +685,8 @@ only_changes s t c x r h =
     ∙ ap (λ (z : Stepped). one_after_other h.rested (one_after_other z (roused z.state t c))) (only_takes h.rested.state t c x h.weighed h.weighs)
     ∙ ap (λ (z : Stepped). one_after_other z (weighed_then z.state t c x)) (only_calls_if_there s callback.Quiescent (task_and_number t change_flags) t c h.rested h.rests)
 
-abbrev stopped_for : State → ℕ → ℕ → Stepped
-stopped_for s t c = call_by_linux s callback.Stopping (task_and_number t 0) t c
-
-abbrev resumed : State → ℕ → ℕ → Stepped
-resumed s t c = call_by_linux s callback.Running (one_task t) t c
-
 abbrev changed_then : State → ℕ → ℕ → ℕ → Stepped
-changed_then s t c x = let b = changes_weight s t c x in one_after_other b (resumed b.state t c)
+changed_then s t c x = let b = changes_weight s t c x in one_after_other b (run_heard b.state c t)
 
 abbrev changed_and_put : State → ℕ → ℕ → ℕ → Stepped
 changed_and_put s t c x = let b = changes_weight s t c x in one_after_other b (put b.state t c 0)
@@ -745,9 +720,9 @@ reweighs s t x = go (cpu_of s.world t) refl
     go : (o : Option ℕ) → cpu_of s.world t ≡ o → Reweighs s t x (reweigh_at o s t x)
     go None e = subst (λ r. Reweighs s t x r) (off_is s t d x (waits s.world t) refl) (off e (waits s.world t) refl)
     go (Some c) e =
-        let a = stopped_for s t c in
+        let a = stop_heard s c t in
         let b = changes_weight a.state t c x in
-        WhileItRuns c a b (resumed b.state t c) e (calls_if_there s callback.Stopping (task_and_number t 0) t c) (changes a.state t c x) (calls_if_there b.state callback.Running (one_task t) t c) refl
+        WhileItRuns c a b (run_heard b.state c t) e (hears_stop s c t) (changes a.state t c x) (hears_run b.state c t) refl
 
 waiting_is : (s : State) (t c x : ℕ) (a : Stepped) → LeavesQueue s t c change_flags a → one_after_other a (changed_and_put a.state t c x) ≡ reweigh_waiting s t c x
 unfolding reweigh_waiting
@@ -756,9 +731,9 @@ waiting_is s t c x a h = ap (λ (z : Stepped). one_after_other z (changed_and_pu
 only_reweighs : (s : State) (t x : ℕ) (r : Stepped) → Reweighs s t x r → r ≡ reweigh_at (cpu_of s.world t) s t x
 unfolding reweigh_running
 only_reweighs s t x r (WhileItRuns c a b u e h y w k) =
-    rw e (k ∙ ap (λ z. one_after_other a (one_after_other b z)) (only_calls_if_there b.state callback.Running (one_task t) t c u w)
-    ∙ ap (λ (z : Stepped). one_after_other a (one_after_other z (resumed z.state t c))) (only_changes a.state t c x b y)
-    ∙ ap (λ (z : Stepped). one_after_other z (changed_then z.state t c x)) (only_calls_if_there s callback.Stopping (task_and_number t 0) t c a h))
+    rw e (k ∙ ap (λ z. one_after_other a (one_after_other b z)) (only_hears_run b.state c t u w)
+    ∙ ap (λ (z : Stepped). one_after_other a (one_after_other z (run_heard z.state c t))) (only_changes a.state t c x b y)
+    ∙ ap (λ (z : Stepped). one_after_other z (changed_then z.state t c x)) (only_hears_stop s c t a h))
 only_reweighs s t x r (WhileItWaits a b u e y h z w k) =
     let d = (task_at s.world t).prev_cpu in
     rw e (k ∙ ap (λ i. one_after_other a (one_after_other b i)) (only_puts b.state t d 0 u w)

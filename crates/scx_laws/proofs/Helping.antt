@@ -1,11 +1,12 @@
 -- What a helper answers and leaves is allowed, and nothing else is.
 use Rattle.std.proofs.Common.{unwrap_or, ◌≡◌, ℕ, suc, ◌+◌, ◌-◌, ◌*◌, ◌/◌, ◌%◌, ◌^◌, ◌<◌, ◌≤◌, Bool, true, false, ◌==◌, ◌&&◌, ◌||◌, not, nat_lt, nat_le, ◌⊎◌, inl, inr, if◌then◌else◌, List, [], ◌∷◌, length, get_or, Option, Some, None, is_none, option_map, refl, sym, ◌∙◌, ap, subst, arith}
+use Rattle.scx_sched.proofs.Events.{is_task}
 use Rattle.std.specs.List.{list_any}
 use Rattle.std.proofs.lemmas.List.{get_or_past}
 use Rattle.std.proofs.lemmas.Nat.{div-add-mod'}
 use Rattle.std.proofs.lemmas.List.Folds.{list_any_at}
 use Rattle.std.proofs.lemmas.Bool.Decides.{nat_tests}
-use Rattle.std.proofs.lemmas.Bool.{cases_eq, cases_lt, eq-eqb, ne_eqb}
+use Rattle.std.proofs.lemmas.Bool.{cases_eq, cases_lt, eq-eqb, ne_eqb, and_from, and_left, or_cases, and_parts, false_from_ne_true, not-true, or_right}
 use Rattle.scx_dsq.specs.Queues.{Entries, exists, entry_of, is_in, len_of}
 use Rattle.scx_dsq.specs.Calls.{create_refusal, after_create, clashes, with_queue, after_push, after_remove}
 use Rattle.scx_dsq.specs.Laws.{one_if}
@@ -34,29 +35,16 @@ use Rattle.scx_sched_world.specs.World.{WorldState, with_queues, with_kick, is_b
 use Rattle.scx_sched_world.specs.Tasks.{homed, local_cpu, for_cpu, next_for}
 use Rattle.scx_sched_world.specs.declared.notes.What.TheVariants as notes
 use Rattle.scx_sched_world.specs.Helpers.{invalid, with_fault, with_move, are_linux_flags, are_known, flags_fault, is_late, after_late, after_insert, insert_answer, after_choice, seems_idle, kick_of, kicked_so, kick_fault, kicked_or_fault, given_number, given_task, task_or_null, is_there, can_create, is_at_hand, is_held, is_dispatch, may_insert_in, may_insert, queue_fault, is_vtime, rank_fault, or_fault, unless_fault, fault_or, ask_fault, insert_fault, insert_or_fault, invalid_if, insert_of, insert_of_vtime, choice_answer, pid_answer, cpu_meant, may_go, placing_fault, can_move, moved_to_local, one_if_some, after_release, helper_answer, helper_after}
-use Rattle.scx_laws.specs.Helpers.{IsDestination, Own, Global, Local, LocalOn, NamesNoCpu, CanCreate, MayInsert, InSelectCpu, InEnqueue, InDispatch, IsBuiltinVtime, IsMixed, IsMeant, IsNamed, IsAtHand, IsForbidden, MayMove, JudgesAsk, JudgesChoice, AreFlags, OfWake, OfLinux, IsLate, JudgesInsert, JudgesFlags, JudgesAnInsert, InTime, TooLate, Inserts, Keeps, Releases, PassesOver, Moves, First, HasNone, IsChoice, Chooses, OfTask, OfNone, OfNobody, SeemsIdle, IsUnclaimed, ClaimedHere, Tells, TellsIdle, TellsBusy, Kicks, KicksAny, KicksIdle, KicksCycling, LeavesBusy, KicksToPreempt, Finds, Found, Nobody, IsEffect, Done, NamesTask, Wrong, Blames}
+use Rattle.scx_laws.specs.Helpers.{Judges, Does, Names, wrong_answer, IsDestination, Own, Global, Local, LocalOn, NamesNoCpu, CanCreate, MayInsert, InSelectCpu, InEnqueue, InDispatch, IsBuiltinVtime, IsMixed, IsMeant, IsNamed, IsAtHand, IsForbidden, MayMove, JudgesAsk, JudgesChoice, AreFlags, OfWake, OfLinux, IsLate, JudgesInsert, JudgesFlags, JudgesAnInsert, InTime, TooLate, Inserts, Keeps, Releases, PassesOver, Moves, First, HasNone, IsChoice, Chooses, OfTask, OfNone, OfNobody, SeemsIdle, IsUnclaimed, ClaimedHere, Tells, TellsIdle, TellsBusy, Kicks, KicksAny, KicksIdle, KicksCycling, LeavesBusy, KicksToPreempt, Finds, Found, Nobody, IsEffect, Done, NamesTask, Wrong, Blames}
 use Rattle.scx_laws.specs.Allowing.{RulesAllowHelpers, RulesAllowHelpersOnly}
 use Rattle.scx_laws.proofs.PickingIdle.{is_choice, only_choice, claims, only_claims}
-use Rattle.scx_laws.proofs.Differing.{and_true, false_and, true_either, homes, only_homes}
+use Rattle.scx_laws.proofs.Differing.{homes, only_homes, not_so}
 use Rattle.scx_laws.proofs.BindingTasks.{outside_is, outside_of, next_is, only_next}
 use Rattle.scx_laws.proofs.Ejecting.{blames, only_blames}
-use Rattle.scx_laws.proofs.Readers.{this_is, this_of, there_is, is_there_of, some_fault, here_allowed, only_here_so, exit_allowed, only_exit, current_allowed, only_current_so, peek_allowed, only_peek, running_allowed, only_running, home_allowed, only_home, may_allowed, only_may, random_allowed, only_random, pick_allowed, only_pick, ask_judged, ask_from, claim_allowed, only_claim}
+use Rattle.scx_laws.proofs.Readers.{this_of, there_is, is_there_of, some_fault, here_allowed, only_here_so, exit_allowed, only_exit, current_allowed, only_current_so, peek_allowed, only_peek, running_allowed, only_running, home_allowed, only_home, may_allowed, only_may, random_allowed, only_random, pick_allowed, only_pick, ask_judged, ask_from, claim_allowed, only_claim}
 use Rattle.scx_laws.proofs.Alarms.{start_allowed, only_start, cancel_allowed, only_cancel}
 
 -- ---- tests of Booleans as facts
-
-both : (a b : Bool) → (a && b) ≡ true → (a ≡ true) × (b ≡ true)
-both true true e = (refl, refl)
-both true false e = absurd (cc)
-both false b e = absurd (cc)
-
-is_false : (b : Bool) → (b ≡ true → ⊥) → b ≡ false
-is_false true f = absurd (f refl)
-is_false false f = refl
-
-not_both : (b : Bool) → b ≡ false → b ≡ true → ⊥
-not_both true x y = absurd (cc)
-not_both false x y = absurd (cc)
 
 dispatch_is : (b : Callback) → is_dispatch b ≡ true → b ≡ callback.Dispatch
 dispatch_is callback.Dispatch e = refl
@@ -80,7 +68,7 @@ no_destination w q own g l on (LocalOn c k e) = on c k e
 -- below the end, only what is there
 low_queue : (w : WorldState) (q : ℕ) → q < policy_end → (b : Bool) → exists w.queues q ≡ b → FaultOf w q (if b then None else Some NoSuchQueue)
 low_queue w q low true e = Own (low, e)
-low_queue w q low false e = (no_destination w q (λ l x. not_both (exists w.queues q) e x) (λ x. omega (arith, low, x)) (λ x. omega (arith, low, x)) (λ c l x. omega (arith, low, x)), λ h. omega (arith, low, h.named))
+low_queue w q low false e = (no_destination w q (λ l x. not_so (exists w.queues q) e x) (λ x. omega (arith, low, x)) (λ x. omega (arith, low, x)) (λ c l x. omega (arith, low, x)), λ h. omega (arith, low, h.named))
 
 -- from the local queues on
 high_queue : (w : WorldState) (q : ℕ) → local_on 0 ≤ q → (a b : Bool) → nat_lt q (local_on (length w.cpus)) ≡ a → nat_lt q (local_on 0x1_0000_0000) ≡ b → FaultOf w q (if a then None else (if b then Some NoSuchCpu else Some NoSuchQueue))
@@ -146,16 +134,12 @@ any_at f (x ∷ xs) e = go (f x) refl e (λ y. any_at f xs y)
     go true y z g = record { at = 0; passes = y }
     go false y z g = let h = g z in record { at = suc h.at; passes = h.passes }
 
-not_true : (b : Bool) → not b ≡ true → b ≡ false
-not_true true e = absurd (cc)
-not_true false e = refl
-
 mixed_is : (w : WorldState) (q : ℕ) (r : Rank) → list_any (clashes q r) w.queues.entries ≡ true → IsMixed w q r
 mixed_is w q r e = go (any_at (clashes q r) w.queues.entries e)
   where
     at : (t : ℕ) (o : Option Entry) → entry_of w.queues t ≡ o → clashes q r o ≡ true → IsMixed w q r
     at t None x y = absurd (cc)
-    at t (Some p) x y = let z = both (p.queue == q) (not (same_sort p.rank r)) y in record { task = t; entry = p; waits = (x, grind (arith, nat_tests, z.0)); other = not_true (same_sort p.rank r) z.1 }
+    at t (Some p) x y = let z = and_parts (p.queue == q) (not (same_sort p.rank r)) y in record { task = t; entry = p; waits = (x, grind (arith, nat_tests, z.0)); other = not-true (same_sort p.rank r) z.1 }
 
     go : IsAny (clashes q r) w.queues.entries → IsMixed w q r
     go h = at h.at (entry_of w.queues h.at) refl h.passes
@@ -175,14 +159,14 @@ rank_fault_is w q r = go (is_vtime r && nat_le policy_end q) (list_any (clashes 
   where
     go : (a b : Bool) → (is_vtime r && nat_le policy_end q) ≡ a → list_any (clashes q r) w.queues.entries ≡ b → RankOf w q r (if a then Some BuiltinVtime else (if b then Some Mixed else None))
     go true b x y = by_vtime_is q r x
-    go false true x y = (λ h. not_both (is_vtime r && nat_le policy_end q) x (by_vtime_of q r h), mixed_is w q r y)
-    go false false x y = (λ h. not_both (is_vtime r && nat_le policy_end q) x (by_vtime_of q r h), λ h. not_both (list_any (clashes q r) w.queues.entries) y (mixed_of w q r h))
+    go false true x y = (λ h. not_so (is_vtime r && nat_le policy_end q) x (by_vtime_of q r h), mixed_is w q r y)
+    go false false x y = (λ h. not_so (is_vtime r && nat_le policy_end q) x (by_vtime_of q r h), λ h. not_so (list_any (clashes q r) w.queues.entries) y (mixed_of w q r h))
 
 no_vtime : (q : ℕ) (r : Rank) → ¬ IsBuiltinVtime q r → (is_vtime r && nat_le policy_end q) ≡ false
-no_vtime q r n = is_false (is_vtime r && nat_le policy_end q) (λ e. n (by_vtime_is q r e))
+no_vtime q r n = false_from_ne_true (is_vtime r && nat_le policy_end q) (λ e. n (by_vtime_is q r e))
 
 rank_fault_from : (w : WorldState) (q : ℕ) (r : Rank) (o : Option Fault) → RankOf w q r o → rank_fault w q r ≡ o
-rank_fault_from w q r None h = rw (no_vtime q r h.0, is_false (list_any (clashes q r) w.queues.entries) (λ e. h.1 (mixed_is w q r e))) refl
+rank_fault_from w q r None h = rw (no_vtime q r h.0, false_from_ne_true (list_any (clashes q r) w.queues.entries) (λ e. h.1 (mixed_is w q r e))) refl
 rank_fault_from w q r (Some BuiltinVtime) h = rw (by_vtime_of q r h) refl
 rank_fault_from w q r (Some Mixed) h = rw (no_vtime q r h.0, mixed_of w q r h.1) refl
 rank_fault_from w q r (Some NoSuchQueue) h = absurd h
@@ -197,7 +181,7 @@ rank_fault_from w q r (Some IdleUntracked) h = absurd h
 -- ---- flags of an insert
 
 linux_flags_is : (w : WorldState) (n : ℕ) → is_by_linux w ≡ true → are_linux_flags n ≡ true → AreFlags w n
-linux_flags_is w n lin e = go (both (nat_le (n % 2 ^ 32) 1) ((n / 2 ^ 32 == 0) || ((n / 2 ^ 32 == 1) || ((n / 2 ^ 32 == 2 ^ 16) || (n / 2 ^ 32 == 2 ^ 16 + 1)))) e)
+linux_flags_is w n lin e = go (and_parts (nat_le (n % 2 ^ 32) 1) ((n / 2 ^ 32 == 0) || ((n / 2 ^ 32 == 1) || ((n / 2 ^ 32 == 2 ^ 16) || (n / 2 ^ 32 == 2 ^ 16 + 1)))) e)
   where
     of : (p h : ℕ) → n % 2 ^ 32 ≤ 1 → p ≤ 1 → h ≤ 1 → n / 2 ^ 32 ≡ p + h * 2 ^ 16 → AreFlags w n
     of p h low x y k = OfLinux (n % 2 ^ 32) p h lin low x y (omega (arith, k, div-add-mod' n (2 ^ 32)))
@@ -211,17 +195,17 @@ linux_flags_is w n lin e = go (both (nat_le (n % 2 ^ 32) 1) ((n / 2 ^ 32 == 0) |
 
     second : n % 2 ^ 32 ≤ 1 → ((n / 2 ^ 32 == 1) ≡ true) ⊎ (((n / 2 ^ 32 == 2 ^ 16) || (n / 2 ^ 32 == 2 ^ 16 + 1)) ≡ true) → AreFlags w n
     second low (inl x) = of 1 0 low (omega arith) (omega arith) (omega (arith, is (n / 2 ^ 32) 1 x))
-    second low (inr x) = third low (true_either (n / 2 ^ 32 == 2 ^ 16) (n / 2 ^ 32 == 2 ^ 16 + 1) x)
+    second low (inr x) = third low (or_cases (n / 2 ^ 32 == 2 ^ 16) (n / 2 ^ 32 == 2 ^ 16 + 1) x)
 
     first : n % 2 ^ 32 ≤ 1 → ((n / 2 ^ 32 == 0) ≡ true) ⊎ (((n / 2 ^ 32 == 1) || ((n / 2 ^ 32 == 2 ^ 16) || (n / 2 ^ 32 == 2 ^ 16 + 1))) ≡ true) → AreFlags w n
     first low (inl x) = of 0 0 low (omega arith) (omega arith) (omega (arith, is (n / 2 ^ 32) 0 x))
-    first low (inr x) = second low (true_either (n / 2 ^ 32 == 1) ((n / 2 ^ 32 == 2 ^ 16) || (n / 2 ^ 32 == 2 ^ 16 + 1)) x)
+    first low (inr x) = second low (or_cases (n / 2 ^ 32 == 1) ((n / 2 ^ 32 == 2 ^ 16) || (n / 2 ^ 32 == 2 ^ 16 + 1)) x)
 
     go : (nat_le (n % 2 ^ 32) 1 ≡ true) × (((n / 2 ^ 32 == 0) || ((n / 2 ^ 32 == 1) || ((n / 2 ^ 32 == 2 ^ 16) || (n / 2 ^ 32 == 2 ^ 16 + 1)))) ≡ true) → AreFlags w n
-    go h = first (grind (arith, nat_tests, h.0)) (true_either (n / 2 ^ 32 == 0) ((n / 2 ^ 32 == 1) || ((n / 2 ^ 32 == 2 ^ 16) || (n / 2 ^ 32 == 2 ^ 16 + 1))) h.1)
+    go h = first (grind (arith, nat_tests, h.0)) (or_cases (n / 2 ^ 32 == 0) ((n / 2 ^ 32 == 1) || ((n / 2 ^ 32 == 2 ^ 16) || (n / 2 ^ 32 == 2 ^ 16 + 1))) h.1)
 
 linux_flags_of : (n wake p h : ℕ) → wake ≤ 1 → p ≤ 1 → h ≤ 1 → n ≡ wake + p * 2 ^ 32 + h * 2 ^ 48 → are_linux_flags n ≡ true
-linux_flags_of n wake p h a b c k = and_true (nat_le (n % 2 ^ 32) 1) _ low (go (cases_eq p 0) (cases_eq h 0))
+linux_flags_of n wake p h a b c k = and_from (nat_le (n % 2 ^ 32) 1) _ low (go (cases_eq p 0) (cases_eq h 0))
   where
     low : nat_le (n % 2 ^ 32) 1 ≡ true
     low = let l : n % 2 ^ 32 ≤ 1 = omega (arith, a, b, c, k) in grind (arith, nat_tests, l)
@@ -229,18 +213,14 @@ linux_flags_of n wake p h a b c k = and_true (nat_le (n % 2 ^ 32) 1) _ low (go (
     first : (x : Bool) (y : Bool) → x ≡ true → (x || y) ≡ true
     first x y e = rw e refl
 
-    second : (x : Bool) (y : Bool) → y ≡ true → (x || y) ≡ true
-    second true y e = refl
-    second false y e = e
-
     high : (m : ℕ) → n / 2 ^ 32 ≡ m → (n / 2 ^ 32 == m) ≡ true
     high m e = eq-eqb (n / 2 ^ 32) m e
 
     go : (p ≡ 0) ⊎ (p ≡ 0 → ⊥) → (h ≡ 0) ⊎ (h ≡ 0 → ⊥) → ((n / 2 ^ 32 == 0) || ((n / 2 ^ 32 == 1) || ((n / 2 ^ 32 == 2 ^ 16) || (n / 2 ^ 32 == 2 ^ 16 + 1)))) ≡ true
     go (inl x) (inl y) = first (n / 2 ^ 32 == 0) _ (high 0 (omega (arith, a, k, x, y)))
-    go (inr x) (inl y) = second (n / 2 ^ 32 == 0) _ (first (n / 2 ^ 32 == 1) _ (high 1 (omega (arith, a, b, k, x, y))))
-    go (inl x) (inr y) = second (n / 2 ^ 32 == 0) _ (second (n / 2 ^ 32 == 1) _ (first (n / 2 ^ 32 == 2 ^ 16) _ (high (2 ^ 16) (omega (arith, a, c, k, x, y)))))
-    go (inr x) (inr y) = second (n / 2 ^ 32 == 0) _ (second (n / 2 ^ 32 == 1) _ (second (n / 2 ^ 32 == 2 ^ 16) _ (high (2 ^ 16 + 1) (omega (arith, a, b, c, k, x, y)))))
+    go (inr x) (inl y) = or_right (n / 2 ^ 32 == 0) _ (first (n / 2 ^ 32 == 1) _ (high 1 (omega (arith, a, b, k, x, y))))
+    go (inl x) (inr y) = or_right (n / 2 ^ 32 == 0) _ (or_right (n / 2 ^ 32 == 1) _ (first (n / 2 ^ 32 == 2 ^ 16) _ (high (2 ^ 16) (omega (arith, a, c, k, x, y)))))
+    go (inr x) (inr y) = or_right (n / 2 ^ 32 == 0) _ (or_right (n / 2 ^ 32 == 1) _ (or_right (n / 2 ^ 32 == 2 ^ 16) _ (high (2 ^ 16 + 1) (omega (arith, a, b, c, k, x, y)))))
 
 abbrev known_as : ℕ → Bool → Bool
 known_as n b = if b then are_linux_flags n else nat_le n 1
@@ -261,7 +241,7 @@ flags_of w n (OfWake l) = go (is_by_linux w)
     go false = grind (arith, nat_tests, l)
 
 no_flags : (w : WorldState) (n : ℕ) → ¬ AreFlags w n → are_known w n ≡ false
-no_flags w n f = is_false (are_known w n) (λ e. f (flags_is w n e))
+no_flags w n f = false_from_ne_true (are_known w n) (λ e. f (flags_is w n e))
 
 -- ---- where an insert brings its task
 
@@ -271,7 +251,7 @@ local_is w q c e = go (nat_le (local_on 0) q && nat_lt q (local_on (length w.cpu
     go : (b : Bool) → (nat_le (local_on 0) q && nat_lt q (local_on (length w.cpus))) ≡ b → (if b then Some (q - local_on 0) else None) ≡ Some c → IsMeant w q c
     go false x y = absurd (cc)
     go true x y =
-        let z = both (nat_le (local_on 0) q) (nat_lt q (local_on (length w.cpus))) x in
+        let z = and_parts (nat_le (local_on 0) q) (nat_lt q (local_on (length w.cpus))) x in
         let low : local_on 0 ≤ q = grind (arith, nat_tests, z.0) in
         let high : q < local_on (length w.cpus) = grind (arith, nat_tests, z.1) in
         let is : q - local_on 0 ≡ c = ap (λ o. unwrap_or o 0) y in
@@ -286,18 +266,18 @@ meant_is w q c e = go ((q == local) && is_dispatch w.call.callback) refl e
     go : (b : Bool) → ((q == local) && is_dispatch w.call.callback) ≡ b → meant_as w q b ≡ Some c → IsMeant w q c
     go false x y = local_is w q c y
     go true x y =
-        let z = both (q == local) (is_dispatch w.call.callback) x in
+        let z = and_parts (q == local) (is_dispatch w.call.callback) x in
         let is : w.call.cpu ≡ c = ap (λ o. unwrap_or o 0) y in
         IsAtHand (dispatch_is w.call.callback z.1) (grind (arith, nat_tests, z.0)) (sym is)
 
 meant_of : (w : WorldState) (q c : ℕ) → IsMeant w q c → cpu_meant w q ≡ Some c
-meant_of w q c (IsAtHand x e k) = ap (λ b. meant_as w q b) (and_true (q == local) (is_dispatch w.call.callback) (eq-eqb q local e) (ap (λ b. is_dispatch b) x)) ∙ ap (λ n. Some n) (sym k)
+meant_of w q c (IsAtHand x e k) = ap (λ b. meant_as w q b) (and_from (q == local) (is_dispatch w.call.callback) (eq-eqb q local e) (ap (λ b. is_dispatch b) x)) ∙ ap (λ n. Some n) (sym k)
 meant_of w q c (IsNamed l e) =
     let low : nat_le (local_on 0) q ≡ true = grind (arith, nat_tests, e) in
     let high : nat_lt q (local_on (length w.cpus)) ≡ true = grind (arith, nat_tests, e, l) in
     let is : q - local_on 0 ≡ c = omega (arith, e) in
-    ap (λ b. meant_as w q b) (false_and (q == local) (is_dispatch w.call.callback) (ne_eqb q local (λ x. omega (arith, x, e))))
-    ∙ ap (λ b. if b then Some (q - local_on 0) else None) (and_true (nat_le (local_on 0) q) (nat_lt q (local_on (length w.cpus))) low high) ∙ ap (λ n. Some n) is
+    ap (λ b. meant_as w q b) (and_left (q == local) (is_dispatch w.call.callback) (ne_eqb q local (λ x. omega (arith, x, e))))
+    ∙ ap (λ b. if b then Some (q - local_on 0) else None) (and_from (nat_le (local_on 0) q) (nat_lt q (local_on (length w.cpus))) low high) ∙ ap (λ n. Some n) is
 
 forbidden_is : (w : WorldState) (t : Option ℕ) (q : ℕ) → may_go w t (cpu_meant w q) ≡ false → IsForbidden w t q
 forbidden_is w t q = go t refl (cpu_meant w q) refl
@@ -345,8 +325,8 @@ insert_is w t e = go w.call.callback refl e
     held-here x (Some u) y e = InDispatch u x y (held_is (entry_of w.queues u) e)
 
     go : (b : Callback) → w.call.callback ≡ b → may_insert_in b w t ≡ true → MayInsert w t
-    go callback.SelectCpu x e = let y = both (is_none w.call.insert) (is_at_hand w t) e in InSelectCpu x (empty w.call.insert y.0) (hand t y.1)
-    go callback.Enqueue x e = let y = both (is_none w.call.insert) (is_at_hand w t) e in InEnqueue x (empty w.call.insert y.0) (hand t y.1)
+    go callback.SelectCpu x e = let y = and_parts (is_none w.call.insert) (is_at_hand w t) e in InSelectCpu x (empty w.call.insert y.0) (hand t y.1)
+    go callback.Enqueue x e = let y = and_parts (is_none w.call.insert) (is_at_hand w t) e in InEnqueue x (empty w.call.insert y.0) (hand t y.1)
     go callback.Dispatch x e = held-here x t refl e
     go b x e = absurd (cc)
 
@@ -360,7 +340,7 @@ insert_fault_is w t i flags = go (may_insert w t) refl
   where
     at_place : MayInsert w t → AreFlags w flags → IsDestination w i.queue → ¬ IsBuiltinVtime i.queue i.rank → ¬ IsMixed w i.queue i.rank → (b : Bool) → may_go w t (cpu_meant w i.queue) ≡ b
         → JudgesInsert w t i flags (if b then None else Some NotAllowed)
-    at_place m l d v x true e = (m, l, d, v, x, λ h. not_both (may_go w t (cpu_meant w i.queue)) (forbidden_of w t i.queue h) e)
+    at_place m l d v x true e = (m, l, d, v, x, λ h. not_so (may_go w t (cpu_meant w i.queue)) (forbidden_of w t i.queue h) e)
     at_place m l d v x false e = (m, l, d, v, x, forbidden_is w t i.queue e)
 
     at_rank : MayInsert w t → AreFlags w flags → IsDestination w i.queue → (o : Option Fault) → RankOf w i.queue i.rank o → JudgesInsert w t i flags (or_fault o (placing_fault w t i.queue))
@@ -390,12 +370,12 @@ insert_fault_is w t i flags = go (may_insert w t) refl
     at_queue m l (Some Mixed) h = absurd h
 
     at_flag : MayInsert w t → (b : Bool) → are_known w flags ≡ b → JudgesInsert w t i flags (or_fault (if b then None else Some UnknownFlag) (or_fault (queue_fault w i.queue) (or_fault (rank_fault w i.queue i.rank) (placing_fault w t i.queue))))
-    at_flag m false e = (m, λ h. not_both (are_known w flags) e (flags_of w flags h))
+    at_flag m false e = (m, λ h. not_so (are_known w flags) e (flags_of w flags h))
     at_flag m true e = at_queue m (flags_is w flags e) (queue_fault w i.queue) (queue_fault_is w i.queue)
 
     go : (b : Bool) → may_insert w t ≡ b → JudgesInsert w t i flags (if b then or_fault (flags_fault w flags) (or_fault (queue_fault w i.queue) (or_fault (rank_fault w i.queue i.rank) (placing_fault w t i.queue))) else Some CannotInsert)
     go true e = at_flag (insert_is w t e) (are_known w flags) refl
-    go false e = λ m. not_both (may_insert w t) e (may_insert_of w t m)
+    go false e = λ m. not_so (may_insert w t) e (may_insert_of w t m)
 
 apart : (w : WorldState) (q : ℕ) → IsDestination w q → NamesNoCpu w q → ⊥
 apart w q (Own h) n = omega (arith, h.0, n.named)
@@ -476,7 +456,7 @@ insert_fault_from w t i flags o j = go o j
     go (Some NotAllowed) j = at_place j.0 j.1 j.2 (j.3, j.4) false (forbidden_of w t i.queue j.5)
     go (Some BuiltinVtime) j = at_rank j.0 j.1 j.2 (Some BuiltinVtime) j.3
     go (Some Mixed) j = at_rank j.0 j.1 j.2 (Some Mixed) (j.3, j.4)
-    go (Some CannotInsert) j = rw (is_false (may_insert w t) (λ e. j (insert_is w t e))) refl
+    go (Some CannotInsert) j = rw (false_from_ne_true (may_insert w t) (λ e. j (insert_is w t e))) refl
     go (Some UnknownFlag) j = ap (λ b. fault_as w t i (flags_fault w flags) b) (may_insert_of w t j.0) ∙ ap (λ f. fault_as w t i f true) (unknown_fault w flags j.1)
     go (Some NoSuchQueue) j = at_queue j.0 j.1 NoSuchQueue (no_queue_at w i.queue j.2 j.3 (queue_fault w i.queue) (queue_fault_is w i.queue))
     go (Some NoSuchCpu) j = at_queue j.0 j.1 NoSuchCpu (no_cpu_at w i.queue j.2 (queue_fault w i.queue) (queue_fault_is w i.queue))
@@ -492,7 +472,7 @@ inserts w t i on m = go m
     kept : (b : Callback) → w.call.callback ≡ b → is_dispatch b ≡ false → Inserts w t i (insert_or_fault w None t i)
     kept b x other =
         let d : is_dispatch w.call.callback ≡ false = rw x other in
-        rw d (Keeps (λ e. not_both (is_dispatch w.call.callback) d (is_dispatch_of w.call.callback e)) refl)
+        rw d (Keeps (λ e. not_so (is_dispatch w.call.callback) d (is_dispatch_of w.call.callback e)) refl)
 
     release : (u : ℕ) → w.call.callback ≡ callback.Dispatch → (o : Option ℕ) → o ≡ Some u → ¬ IsLate w o → Inserts w o i (insert_or_fault w None o i)
     release u x o y on = rw (is_dispatch_of w.call.callback x) (at o y on)
@@ -507,7 +487,7 @@ inserts w t i on m = go m
     go (InDispatch u x y z) = release u x t y on
 
 only_inserts : (w : WorldState) (t : Option ℕ) (i : Insert) (v : WorldState) → ¬ IsLate w t → Inserts w t i v → v ≡ insert_or_fault w None t i
-only_inserts w t i v on (Keeps n k) = rw (is_false (is_dispatch w.call.callback) (λ e. n (dispatch_is w.call.callback e))) k
+only_inserts w t i v on (Keeps n k) = rw (false_from_ne_true (is_dispatch w.call.callback) (λ e. n (dispatch_is w.call.callback e))) k
 only_inserts w t i v on (Releases u x y _ k) = rw (is_dispatch_of w.call.callback x, y) k
 only_inserts w t i v on (PassesOver l k) = absurd (on l)
 
@@ -515,22 +495,22 @@ only_inserts w t i v on (PassesOver l k) = absurd (on l)
 
 late_is : (w : WorldState) (t : Option ℕ) → is_late w t ≡ true → IsLate w t
 late_is w t e =
-    let x = both (is_by_linux w) (is_dispatch w.call.callback && not (is_held w t)) e in
-    let y = both (is_dispatch w.call.callback) (not (is_held w t)) x.1 in
+    let x = and_parts (is_by_linux w) (is_dispatch w.call.callback && not (is_held w t)) e in
+    let y = and_parts (is_dispatch w.call.callback) (not (is_held w t)) x.1 in
     let here = dispatch_is w.call.callback y.0 in
-    record { by_linux = x.0; here = here; gone = λ m. not_both (is_held w t) (not_true (is_held w t) y.1) (sym (ap (λ b. may_insert_in b w t) here) ∙ may_insert_of w t m) }
+    record { by_linux = x.0; here = here; gone = λ m. not_so (is_held w t) (not-true (is_held w t) y.1) (sym (ap (λ b. may_insert_in b w t) here) ∙ may_insert_of w t m) }
 
 late_of : (w : WorldState) (t : Option ℕ) → IsLate w t → is_late w t ≡ true
 late_of w t h =
-    let gone = is_false (is_held w t) (λ e. h.gone (insert_is w t (ap (λ b. may_insert_in b w t) h.here ∙ e))) in
-    and_true (is_by_linux w) (is_dispatch w.call.callback && not (is_held w t)) h.by_linux (and_true (is_dispatch w.call.callback) (not (is_held w t)) (is_dispatch_of w.call.callback h.here) (ap (λ b. not b) gone))
+    let gone = false_from_ne_true (is_held w t) (λ e. h.gone (insert_is w t (ap (λ b. may_insert_in b w t) h.here ∙ e))) in
+    and_from (is_by_linux w) (is_dispatch w.call.callback && not (is_held w t)) h.by_linux (and_from (is_dispatch w.call.callback) (not (is_held w t)) (is_dispatch_of w.call.callback h.here) (ap (λ b. not b) gone))
 
 flags_judged : (w : WorldState) (flags : ℕ) → JudgesFlags w flags (flags_fault w flags)
 flags_judged w flags = go (are_known w flags) refl
   where
     go : (b : Bool) → are_known w flags ≡ b → JudgesFlags w flags (if b then None else Some UnknownFlag)
     go true e = flags_is w flags e
-    go false e = λ h. not_both (are_known w flags) e (flags_of w flags h)
+    go false e = λ h. not_so (are_known w flags) e (flags_of w flags h)
 
 flags_from : (w : WorldState) (flags : ℕ) (o : Option Fault) → JudgesFlags w flags o → flags_fault w flags ≡ o
 flags_from w flags None j = known_fault w flags j
@@ -564,14 +544,14 @@ does_insert w t i flags = go (is_late w t) refl
 
     go : (b : Bool) → is_late w t ≡ b → DoesInsert w t i flags (answered_as w t i flags b) (inserted_as w t i flags b)
     go true e = late (late_is w t e) (flags_fault w flags) (flags_judged w flags)
-    go false e = on_time (λ h. not_both (is_late w t) e (late_of w t h)) (insert_fault w t i flags) (insert_fault_is w t i flags)
+    go false e = on_time (λ h. not_so (is_late w t) e (late_of w t h)) (insert_fault w t i flags) (insert_fault_is w t i flags)
 
 abbrev Inserted-so : WorldState → Option ℕ → Insert → ℕ → ℕ → WorldState → Type 0
 Inserted-so w t i flags n v = (n ≡ insert_answer w t i flags) × (v ≡ after_insert w t i flags)
 
 only_in_time : (w : WorldState) (t : Option ℕ) (i : Insert) (flags : ℕ) (o : Option Fault) (n : ℕ) (v : WorldState) → ¬ IsLate w t → JudgesInsert w t i flags o → n ≡ invalid_if o → v ≡ insert_or_fault w o t i → Inserted-so w t i flags n v
 only_in_time w t i flags o n v on j x y =
-    let e = is_false (is_late w t) (λ l. on (late_is w t l)) in
+    let e = false_from_ne_true (is_late w t) (λ l. on (late_is w t l)) in
     let f = insert_fault_from w t i flags o j in (
       x ∙ ap (λ k. invalid_if k) (sym f) ∙ ap (λ b. answered_as w t i flags b) (sym e),
       y ∙ ap (λ k. insert_or_fault w k t i) (sym f) ∙ ap (λ b. inserted_as w t i flags b) (sym e),
@@ -600,7 +580,7 @@ only_does_insert w t i flags n v (WrongInsert f (TooLate l j) x k) = only_late w
 
 create_is : (w : WorldState) (q : ℕ) → can_create w q ≡ true → CanCreate w q
 create_is w q e =
-    let x = both (nat_lt q policy_end) (is_none (create_refusal w.queues q)) e in
+    let x = and_parts (nat_lt q policy_end) (is_none (create_refusal w.queues q)) e in
     let y = go (exists w.queues q) (nat_le w.queues.room (length w.queues.ids)) x.1 in
     record { below = grind (arith, nat_tests, x.0); free = y.0; room = grind (arith, nat_tests, y.1) }
   where
@@ -621,7 +601,7 @@ created_is w q h = let free : nat_le w.queues.room (length w.queues.ids) ≡ fal
 -- ---- moving
 
 move_is : (w : WorldState) (q : ℕ) → can_move w q ≡ true → MayMove w q
-move_is w q e = let x = both (is_dispatch w.call.callback) (is_there w q) e in record { here = dispatch_is w.call.callback x.0; there = there_is w q x.1 }
+move_is w q e = let x = and_parts (is_dispatch w.call.callback) (is_there w q) e in record { here = dispatch_is w.call.callback x.0; there = there_is w q x.1 }
 
 can_move_of : (w : WorldState) (q : ℕ) → MayMove w q → can_move w q ≡ true
 can_move_of w q h = rw (h.here, is_there_of w q h.there) refl
@@ -645,21 +625,26 @@ create_allowed w a = go (can_create w q) refl
 
     go : (b : Bool) → can_create w q ≡ b → IsEffect w CreateDsq a (Num (if b then 0 else invalid)) (if b then with_queues w (after_create w.queues q) else with_fault w CannotCreate)
     go true e = let h = create_is w q e in Done 0 h (refl, ap (λ s. with_queues w s) (created_is w q h)) refl
-    go false e = Wrong CannotCreate (λ h. not_both (can_create w q) e (can_create_of w q h)) refl (blames w (reason.Fault CannotCreate))
+    go false e = Wrong CannotCreate (λ h. not_so (can_create w q) e (can_create_of w q h)) refl (blames w (reason.Fault CannotCreate))
 
-insert_allowed : (w : WorldState) (a : List Arg) → Is-effect w DsqInsert a
-insert_allowed w a = go (does_insert w (given_task a 0) (insert_of w a) (given_number a 3))
-  where
-    go : {n : ℕ} {v : WorldState} → DoesInsert w (given_task a 0) (insert_of w a) (given_number a 3) n v → IsEffect w DsqInsert a (Num n) v
-    go {n} (DoneInsert j x h) = Done n j (x, h) refl
-    go (WrongInsert f j x k) = Wrong f j (ap Num x) (subst (λ u. Blames w (reason.Fault f) u) (sym k) (blames w (reason.Fault f)))
+-- a helper that inserts that task so
+record Inserting (w : WorldState) (h : Helper) (a : List Arg) (t : Option ℕ) (i : Insert) (flags : ℕ) : Type 0 where
+  wrong : wrong_answer h ≡ invalid
+  judges : (o : Option Fault) → JudgesAnInsert w t i flags o → Judges w h a o
+  judged : (o : Option Fault) → Judges w h a o → JudgesAnInsert w t i flags o
+  does : (n : ℕ) (v : WorldState) → n ≡ 0 → Inserts w t i v → Does w h a n v
+  done : (n : ℕ) (v : WorldState) → Does w h a n v → (n ≡ 0) × Inserts w t i v
+  unnamed : (o : Option ℕ) → Names w h a o → ⊥
 
-insert_vtime_allowed : (w : WorldState) (a : List Arg) → Is-effect w DsqInsertVtime a
-insert_vtime_allowed w a = go (does_insert w (given_task a 0) (insert_of_vtime w a) (given_number a 4))
-  where
-    go : {n : ℕ} {v : WorldState} → DoesInsert w (given_task a 0) (insert_of_vtime w a) (given_number a 4) n v → IsEffect w DsqInsertVtime a (Num n) v
-    go {n} (DoneInsert j x h) = Done n j (x, h) refl
-    go (WrongInsert f j x k) = Wrong f j (ap Num x) (subst (λ u. Blames w (reason.Fault f) u) (sym k) (blames w (reason.Fault f)))
+in_order : (w : WorldState) (a : List Arg) → Inserting w DsqInsert a (given_task a 0) (insert_of w a) (given_number a 3)
+in_order w a = record { wrong = refl; judges = λ o j. j; judged = λ o j. j; does = λ n v x h. (x, h); done = λ n v d. d; unnamed = λ o m. m }
+
+by_vtime : (w : WorldState) (a : List Arg) → Inserting w DsqInsertVtime a (given_task a 0) (insert_of_vtime w a) (given_number a 4)
+by_vtime w a = record { wrong = refl; judges = λ o j. j; judged = λ o j. j; does = λ n v x h. (x, h); done = λ n v d. d; unnamed = λ o m. m }
+
+insert_allowed : (w : WorldState) (h : Helper) (a : List Arg) (t : Option ℕ) (i : Insert) (flags : ℕ) → Inserting w h a t i flags → (n : ℕ) (v : WorldState) → DoesInsert w t i flags n v → IsEffect w h a (Num n) v
+insert_allowed w h a t i flags k n v (DoneInsert j x y) = Done n (k.judges None j) (k.does n v x y) refl
+insert_allowed w h a t i flags k n v (WrongInsert f j x y) = Wrong f (k.judges (Some f) j) (ap Num (x ∙ sym k.wrong)) (subst (λ u. Blames w (reason.Fault f) u) (sym y) (blames w (reason.Fault f)))
 
 move_allowed : (w : WorldState) (a : List Arg) → Is-effect w DsqMoveToLocal a
 move_allowed w a = go (can_move w q) refl
@@ -669,7 +654,7 @@ move_allowed w a = go (can_move w q) refl
 
     go : (b : Bool) → can_move w q ≡ b → IsEffect w DsqMoveToLocal a (Num (if b then one_if_some (next_for w q w.call.cpu) else invalid)) (if b then moved_to_local w (next_for w q w.call.cpu) else with_fault w NoSuchQueue)
     go true e = Done (one_if_some (next_for w q w.call.cpu)) (move_is w q e) (moves_is w q (next_for w q w.call.cpu) refl) refl
-    go false e = Wrong NoSuchQueue (λ h. not_both (can_move w q) e (can_move_of w q h)) refl (blames w (reason.Fault NoSuchQueue))
+    go false e = Wrong NoSuchQueue (λ h. not_so (can_move w q) e (can_move_of w q h)) refl (blames w (reason.Fault NoSuchQueue))
 
 queued_allowed : (w : WorldState) (a : List Arg) → Is-effect w DsqNrQueued a
 queued_allowed w a = go (is_there w q) refl
@@ -679,7 +664,7 @@ queued_allowed w a = go (is_there w q) refl
 
     go : (b : Bool) → is_there w q ≡ b → IsEffect w DsqNrQueued a (Num (if b then len_of w.queues q else invalid)) (if b then w else with_fault w NoSuchQueue)
     go true e = Done (len_of w.queues q) (there_is w q e) (refl, refl) refl
-    go false e = Wrong NoSuchQueue (λ h. not_both (is_there w q) e (is_there_of w q h)) refl (blames w (reason.Fault NoSuchQueue))
+    go false e = Wrong NoSuchQueue (λ h. not_so (is_there w q) e (is_there_of w q h)) refl (blames w (reason.Fault NoSuchQueue))
 
 abbrev untracked_as : Bool → Option Fault
 untracked_as b = if b then None else Some IdleUntracked
@@ -709,7 +694,7 @@ choice_allowed w a = go (given_task a 0) refl
     go (Some t) e = by t e w.tracks_idle refl
 
 seems_is : (w : WorldState) (c : ℕ) → seems_idle w c ≡ true → SeemsIdle w c
-seems_is w c e = let x = both (is_idle w c) (not (is_claimed w c) || is_in_set w.call.claims c) e in go (is_claimed w c) refl (is_in_set w.call.claims c) refl x.0 x.1
+seems_is w c e = let x = and_parts (is_idle w c) (not (is_claimed w c) || is_in_set w.call.claims c) e in go (is_claimed w c) refl (is_in_set w.call.claims c) refl x.0 x.1
   where
     go : (a : Bool) → is_claimed w c ≡ a → (b : Bool) → is_in_set w.call.claims c ≡ b → is_idle w c ≡ true → (not a || b) ≡ true → SeemsIdle w c
     go false x b y i z = IsUnclaimed (record { idle = i; unclaimed = x })
@@ -717,19 +702,15 @@ seems_is w c e = let x = both (is_idle w c) (not (is_claimed w c) || is_in_set w
     go true x false y i z = absurd (cc)
 
 seems_of : (w : WorldState) (c : ℕ) → SeemsIdle w c → seems_idle w c ≡ true
-seems_of w c (IsUnclaimed h) = and_true (is_idle w c) (not (is_claimed w c) || is_in_set w.call.claims c) h.idle (rw h.unclaimed refl)
-seems_of w c (ClaimedHere i h) = and_true (is_idle w c) (not (is_claimed w c) || is_in_set w.call.claims c) i (second (not (is_claimed w c)) (is_in_set w.call.claims c) h)
-  where
-    second : (x : Bool) (y : Bool) → y ≡ true → (x || y) ≡ true
-    second true y e = refl
-    second false y e = e
+seems_of w c (IsUnclaimed h) = and_from (is_idle w c) (not (is_claimed w c) || is_in_set w.call.claims c) h.idle (rw h.unclaimed refl)
+seems_of w c (ClaimedHere i h) = and_from (is_idle w c) (not (is_claimed w c) || is_in_set w.call.claims c) i (or_right (not (is_claimed w c)) (is_in_set w.call.claims c) h)
 
 tells : (w : WorldState) (c : ℕ) → Tells w c (one_if (seems_idle w c))
 tells w c = go (seems_idle w c) refl
   where
     go : (b : Bool) → seems_idle w c ≡ b → Tells w c (one_if b)
     go true e = TellsIdle (seems_is w c e) refl
-    go false e = TellsBusy (λ h. not_both (seems_idle w c) e (seems_of w c h)) refl
+    go false e = TellsBusy (λ h. not_so (seems_idle w c) e (seems_of w c h)) refl
 
 abbrev idle_so : WorldState → ℕ → Option Fault → Answer
 idle_so w c o = Num (unless_fault o (one_if (seems_idle w c)))
@@ -772,8 +753,8 @@ kicks_so w c n l = first (cases_eq n 0) (cases_eq n 1)
   where
     idle : n ≡ 1 → (o : Option ℕ) → running w c ≡ o → (b : Bool) → is_this c w.cycling ≡ b → Kicks w c n (if is_none o || b then with_kick w c else w)
     idle e None x b y = KicksIdle e x refl
-    idle e (Some t) x true y = KicksCycling e (this_is c w.cycling y) refl
-    idle e (Some t) x false y = LeavesBusy t e x (λ z. not_both (is_this c w.cycling) y (this_of c w.cycling z)) refl
+    idle e (Some t) x true y = KicksCycling e (is_task c w.cycling y) refl
+    idle e (Some t) x false y = LeavesBusy t e x (λ z. not_so (is_this c w.cycling) y (this_of c w.cycling z)) refl
 
     first : (n ≡ 0) ⊎ (n ≡ 0 → ⊥) → (n ≡ 1) ⊎ (n ≡ 1 → ⊥) → IsKick w c n
     first (inl z) any = record { kick = Any; asked = kick_any n z; kicks = KicksAny z refl }
@@ -819,8 +800,8 @@ finds_allowed w a = go (nat_lt 0 n) (nat_le n (length w.tasks)) refl refl
 pub helper_allowed : RulesAllowHelpers
 helper_allowed w KtimeGetNs a own = Done (w.clock * 1000000) refl (refl, refl) refl
 helper_allowed w CreateDsq a own = create_allowed w a
-helper_allowed w DsqInsert a own = insert_allowed w a
-helper_allowed w DsqInsertVtime a own = insert_vtime_allowed w a
+helper_allowed w DsqInsert a own = insert_allowed w DsqInsert a _ _ _ (in_order w a) _ _ (does_insert w (given_task a 0) (insert_of w a) (given_number a 3))
+helper_allowed w DsqInsertVtime a own = insert_allowed w DsqInsertVtime a _ _ _ (by_vtime w a) _ _ (does_insert w (given_task a 0) (insert_of_vtime w a) (given_number a 4))
 helper_allowed w DsqMoveToLocal a own = move_allowed w a
 helper_allowed w SelectCpuDfl a own = choice_allowed w a
 helper_allowed w CpuIdle a own = idle_allowed w a
@@ -850,18 +831,13 @@ Is-this w h a x v = (x ≡ helper_answer w h a) × (v ≡ helper_after w h a)
 only_create : (w : WorldState) (a : List Arg) (x : Answer) (v : WorldState) → IsEffect w CreateDsq a x v → Is-this w CreateDsq a x v
 only_create w a x v (Done n j d e) = let b = can_create_of w (given_number a 0) j in rw b (e ∙ ap Num d.0, d.1 ∙ ap (λ s. with_queues w s) (sym (created_is w (given_number a 0) j)))
 only_create w a x v (NamesTask o j m e k) = absurd m
-only_create w a x v (Wrong CannotCreate j e k) = let b = is_false (can_create w (given_number a 0)) (λ y. j (create_is w (given_number a 0) y)) in rw b (e, only_blames w (reason.Fault CannotCreate) v k)
+only_create w a x v (Wrong CannotCreate j e k) = let b = false_from_ne_true (can_create w (given_number a 0)) (λ y. j (create_is w (given_number a 0) y)) in rw b (e, only_blames w (reason.Fault CannotCreate) v k)
 only_create w a x v (Wrong f j e k) = absurd j
 
-only_insert : (w : WorldState) (a : List Arg) (x : Answer) (v : WorldState) → IsEffect w DsqInsert a x v → Is-this w DsqInsert a x v
-only_insert w a x v (Done n j d e) = let h = only_does_insert w (given_task a 0) (insert_of w a) (given_number a 3) n v (DoneInsert j d.0 d.1) in (e ∙ ap Num h.0, h.1)
-only_insert w a x v (NamesTask o j m e k) = absurd m
-only_insert w a x v (Wrong f j e k) = let h = only_does_insert w (given_task a 0) (insert_of w a) (given_number a 3) invalid v (WrongInsert f j refl (only_blames w (reason.Fault f) v k)) in (e ∙ ap Num h.0, h.1)
-
-only_insert_vtime : (w : WorldState) (a : List Arg) (x : Answer) (v : WorldState) → IsEffect w DsqInsertVtime a x v → Is-this w DsqInsertVtime a x v
-only_insert_vtime w a x v (Done n j d e) = let h = only_does_insert w (given_task a 0) (insert_of_vtime w a) (given_number a 4) n v (DoneInsert j d.0 d.1) in (e ∙ ap Num h.0, h.1)
-only_insert_vtime w a x v (NamesTask o j m e k) = absurd m
-only_insert_vtime w a x v (Wrong f j e k) = let h = only_does_insert w (given_task a 0) (insert_of_vtime w a) (given_number a 4) invalid v (WrongInsert f j refl (only_blames w (reason.Fault f) v k)) in (e ∙ ap Num h.0, h.1)
+only_insert : (w : WorldState) (h : Helper) (a : List Arg) (t : Option ℕ) (i : Insert) (flags : ℕ) → Inserting w h a t i flags → (x : Answer) (v : WorldState) → IsEffect w h a x v → (x ≡ Num (insert_answer w t i flags)) × (v ≡ after_insert w t i flags)
+only_insert w h a t i flags k x v (Done n j d e) = let y = k.done n v d in let z = only_does_insert w t i flags n v (DoneInsert (k.judged None j) y.0 y.1) in (e ∙ ap Num z.0, z.1)
+only_insert w h a t i flags k x v (NamesTask o j m e b) = absurd (k.unnamed o m)
+only_insert w h a t i flags k x v (Wrong f j e b) = let z = only_does_insert w t i flags (wrong_answer h) v (WrongInsert f (k.judged (Some f) j) k.wrong (only_blames w (reason.Fault f) v b)) in (e ∙ ap Num z.0, z.1)
 
 abbrev Chosen-so : WorldState → ℕ → Option ℕ → WorldState → Type 0
 Chosen-so w n o v = (n ≡ choice_answer w o) × (v ≡ after_choice w o)
@@ -899,7 +875,7 @@ only_choice_so w a x v (Wrong f j e k) = go (given_task a 0) refl j
 
 only_tells : (w : WorldState) (c n : ℕ) → Tells w c n → n ≡ one_if (seems_idle w c)
 only_tells w c n (TellsIdle h k) = rw (seems_of w c h) k
-only_tells w c n (TellsBusy f k) = rw (is_false (seems_idle w c) (λ e. f (seems_is w c e))) k
+only_tells w c n (TellsBusy f k) = rw (false_from_ne_true (seems_idle w c) (λ e. f (seems_is w c e))) k
 
 only_idle : (w : WorldState) (a : List Arg) (x : Answer) (v : WorldState) → IsEffect w CpuIdle a x v → Is-this w CpuIdle a x v
 only_idle w a x v (Done n j d e) =
@@ -939,28 +915,24 @@ only_move w a x v (Done n j d e) =
     let m = only_moves w (given_number a 0) n v d in
     rw b (e ∙ ap Num m.0, m.1)
 only_move w a x v (NamesTask o j m e k) = absurd m
-only_move w a x v (Wrong NoSuchQueue j e k) = let b = is_false (can_move w (given_number a 0)) (λ y. j (move_is w (given_number a 0) y)) in rw b (e, only_blames w (reason.Fault NoSuchQueue) v k)
+only_move w a x v (Wrong NoSuchQueue j e k) = let b = false_from_ne_true (can_move w (given_number a 0)) (λ y. j (move_is w (given_number a 0) y)) in rw b (e, only_blames w (reason.Fault NoSuchQueue) v k)
 only_move w a x v (Wrong f j e k) = absurd j
 
 only_queued : (w : WorldState) (a : List Arg) (x : Answer) (v : WorldState) → IsEffect w DsqNrQueued a x v → Is-this w DsqNrQueued a x v
 only_queued w a x v (Done n j d e) = let b = is_there_of w (given_number a 0) j in rw b (e ∙ ap Num d.0, d.1)
 only_queued w a x v (NamesTask o j m e k) = absurd m
-only_queued w a x v (Wrong NoSuchQueue j e k) = let b = is_false (is_there w (given_number a 0)) (λ y. j (there_is w (given_number a 0) y)) in rw b (e, only_blames w (reason.Fault NoSuchQueue) v k)
+only_queued w a x v (Wrong NoSuchQueue j e k) = let b = false_from_ne_true (is_there w (given_number a 0)) (λ y. j (there_is w (given_number a 0) y)) in rw b (e, only_blames w (reason.Fault NoSuchQueue) v k)
 only_queued w a x v (Wrong f j e k) = absurd j
 
 -- flags ask for one kick, which does that
 only_kicks : (w : WorldState) (c n : ℕ) (v : WorldState) → Kicks w c n v → (k : Kick) × (kick_of n ≡ Some k) × (v ≡ kicked_so w c k)
 only_kicks w c n v (KicksAny z k) = (Any, kick_any n z, k)
 only_kicks w c n v (KicksIdle z r k) = (IfIdle, kick_idle n z, k ∙ ap (λ o. if is_none o || is_this c w.cycling then with_kick w c else w) (sym r))
-only_kicks w c n v (KicksCycling z r k) = (IfIdle, kick_idle n z, k ∙ ap (λ b. if b then with_kick w c else w) (sym (second (is_none (running w c)) (is_this c w.cycling) (this_of c w.cycling r))))
-  where
-    second : (x : Bool) (y : Bool) → y ≡ true → (x || y) ≡ true
-    second true y e = refl
-    second false y e = e
+only_kicks w c n v (KicksCycling z r k) = (IfIdle, kick_idle n z, k ∙ ap (λ b. if b then with_kick w c else w) (sym (or_right (is_none (running w c)) (is_this c w.cycling) (this_of c w.cycling r))))
 only_kicks w c n v (LeavesBusy t z r f k) = (
   IfIdle,
   kick_idle n z,
-  k ∙ ap (λ b. if is_none (Some t) || b then with_kick w c else w) (sym (is_false (is_this c w.cycling) (λ e. f (this_is c w.cycling e))))
+  k ∙ ap (λ b. if is_none (Some t) || b then with_kick w c else w) (sym (false_from_ne_true (is_this c w.cycling) (λ e. f (is_task c w.cycling e))))
       ∙ ap (λ o. if is_none o || is_this c w.cycling then with_kick w c else w) (sym r),
 )
 only_kicks w c n v (KicksToPreempt z k) = (Preempt, kick_preempt n z, k)
@@ -984,8 +956,8 @@ only_helper w KtimeGetNs a x v (Done n j d e) = (e ∙ ap Num d.0, d.1)
 only_helper w KtimeGetNs a x v (NamesTask o j m e k) = absurd m
 only_helper w KtimeGetNs a x v (Wrong f j e k) = absurd (some_fault f j)
 only_helper w CreateDsq a x v e = only_create w a x v e
-only_helper w DsqInsert a x v e = only_insert w a x v e
-only_helper w DsqInsertVtime a x v e = only_insert_vtime w a x v e
+only_helper w DsqInsert a x v e = only_insert w DsqInsert a _ _ _ (in_order w a) x v e
+only_helper w DsqInsertVtime a x v e = only_insert w DsqInsertVtime a _ _ _ (by_vtime w a) x v e
 only_helper w DsqMoveToLocal a x v e = only_move w a x v e
 only_helper w SelectCpuDfl a x v e = only_choice_so w a x v e
 only_helper w CpuIdle a x v e = only_idle w a x v e

@@ -1,12 +1,13 @@
 -- Under a policy of one line no callback has a fault: queue 0 is there, and takes each task at its end.
 use Rattle.std.proofs.Common.{◌≡◌, ℕ, zero, suc, ◌<◌, ◌≤◌, ◌⊎◌, inl, inr, Bool, true, false, ◌&&◌, not, nat_le, nat_lt, if◌then◌else◌, [], ◌∷◌, length, Option, Some, None, is_some, is_none, refl, sym, ap, ◌∙◌, subst, arith}
+use Rattle.scx_sched.proofs.Blaming.{eject_policy}
 use Rattle.std.specs.List.{list_any}
 use Rattle.std.proofs.lemmas.Bool.{eq-eqb}
 use Rattle.std.proofs.lemmas.Bool.Decides.{nat_tests}
 use Rattle.std.proofs.lemmas.List.{length-set}
 use Rattle.std.proofs.lemmas.List.Elements.{All-from_get_or}
 use Rattle.std.proofs.lemmas.List.Folds.{list_any_none}
-use Rattle.scx_dsq.specs.Queues.{QueueState, len_of, front_of, behind_of}
+use Rattle.scx_dsq.specs.Queues.{QueueState, front_of}
 use Rattle.scx_dsq.specs.Calls.{clashes, after_push, after_remove}
 use Rattle.scx_dsq.specs.declared.entries.Rank.TheVariants.{Fifo}
 use Rattle.scx_isa_semantics.specs.declared.callbacks.Callback.{Callback}
@@ -25,19 +26,19 @@ use Rattle.scx_sched_world.specs.declared.eject.Eject.TheVariants as cause
 use Rattle.scx_sched_world.specs.declared.faults.Fault.{Fault}
 use Rattle.scx_sched_world.specs.Ids.{builtin_queue, parked_queue, local_on}
 use Rattle.scx_sched_world.specs.World as world
-use Rattle.scx_sched_world.specs.World.{WorldState, with_queues, with_task, task_at, are_linux, is_throttled, waits, default_choice, at_callback, quiet}
+use Rattle.scx_sched_world.specs.World.{WorldState, with_queues, with_task, task_at, are_linux, waits, default_choice, at_callback, quiet}
 use Rattle.scx_sched_world.specs.Tasks.{with_home, after_wake, after_leave, after_local, local_cpu, homed, homed_at, after_enter, brought, fill_front, after_stop, started_at, after_keep, let_go, put_parked, next_for}
 use Rattle.scx_sched_world.specs.declared.faults.Fault.TheVariants.{NoSuchQueue, NoSuchCpu}
 use Rattle.scx_weights.specs.Refusals.{weight_fault, own_weight_fault}
 use Rattle.scx_sched_world.specs.Helpers.{with_fault, can_move, is_held, flags_fault, insert_fault, insert_or_fault, after_late, after_insert, with_insert, moved_to_local}
 use Rattle.scx_sched_world.specs.Ejecting.{put_builtin, evict}
 use Rattle.scx_sched_policy.specs.Policy.{PolicyState, program_of}
-use Rattle.scx_sched_machine.specs.Steps.{State, Stepped, with_world, one_after_other, is_by_linux, is_ejected}
-use Rattle.scx_sched_machine.specs.Ejecting.{moves_over, eject, ejected_for}
+use Rattle.scx_sched_machine.specs.Steps.{State, with_world, is_by_linux, is_ejected}
+use Rattle.scx_sched_machine.specs.Ejecting.{eject, ejected_for}
 use Rattle.scx_sched_machine.specs.Callbacks.{call_ending, after_callback, answer_fault, as_cause, or_cause, cause_of, unless_ejected, acting, call_back, task_cpu_and_0, task_and_number}
 use Rattle.scx_sched_machine.specs.Put.{enters, enqueue_choice, enters_builtin, comes_in, put}
 use Rattle.scx_sched_machine.specs.Filling.{fill}
-use Rattle.scx_sched_machine.specs.Parking.{park, let_go_one, let_go_from, let_all_go}
+use Rattle.scx_sched_machine.specs.Parking.{park, let_go_one}
 use Rattle.scx_sched_machine.proofs.Choices.{keeps_if}
 use Rattle.scx_sched.specs.Once.{IsSorted, IsOpen}
 use Rattle.scx_sched.proofs.Entering.{open_without, open_removed, open_same, open_own}
@@ -47,7 +48,7 @@ use Rattle.scx_laws.specs.Serving.{after_serving}
 use Rattle.scx_laws.specs.Lines.{to_line, asked_for, ChoosesIdle, MayChoose, IsLine, IsStall}
 use Rattle.scx_sched_machine.specs.Events.{insert_or_put}
 use Rattle.scx_laws.proofs.Plain.{kicked_plain}
-use Rattle.scx_laws.proofs.Walking.{IsSettled, IsKeptPlainly}
+use Rattle.scx_laws.proofs.Walking.{IsOfSwitch, Leaving, Coming, IsOneLetGo, parked_let_go, after_asking, IsSettled, IsKeptPlainly}
 use Rattle.scx_laws.proofs.Choosing.{chosen_there, idle_end, answered, asked_so}
 
 -- ---- the world of such a policy
@@ -115,10 +116,6 @@ line_stalled s t n h =
   where
     same : (x : Eject) → Some (cause.Stall t n) ≡ Some x → cause.Stall t n ≡ x
     same x e = cc
-
-eject_policy : (s : State) (x : Eject) → (eject s x).state.policy ≡ s.policy
-unfolding eject moves_over
-eject_policy s x = refl
 
 -- ---- callbacks
 
@@ -287,16 +284,20 @@ line_dispatched slice s a c h = go s.world.ejected refl
 
 -- ---- the other callbacks
 
--- one that the policy doesn't have
-line_absent : (slice : ℕ) (s : State) (b : Callback) (a : Args) (t c : ℕ) → program_of s.policy b ≡ None → answer_fault b (at_callback s.world b t c) 0 ≡ None → IsKeptInLine slice s → IsKeptInLine slice (call_back s b a t c).state
-line_absent slice s b a t c none right h = subst (IsKeptInLine slice) (sym (nothing_called s b a t c (acts_not s b none) right)) (h.0, line_at s.world b t c h.1)
+-- as a task leaves a processor or comes to one, such a policy hears nothing
+pub nothing_told : (slice : ℕ) (s : State) (b : Callback) (a : Args) (t c : ℕ) → IsOfSwitch b → IsLine slice s.policy → (call_back s b a t c).state ≡ with_world s (at_callback s.world b t c)
+nothing_told slice s b a t c is h = let x = absent b is in nothing_called s b a t c (acts_not s b x.0) x.1
+  where
+    absent : (b : Callback) → IsOfSwitch b → (program_of s.policy b ≡ None) × (answer_fault b (at_callback s.world b t c) 0 ≡ None)
+    absent _ Leaving = (h.stops, refl)
+    absent _ Coming = (h.runs, refl)
 
 -- where there is no select_cpu, processor 0 is answered
 pub zero_there : (w : WorldState) → 0 < length w.cpus → answer_fault callback.SelectCpu w 0 ≡ None
 zero_there w some = let there : nat_lt 0 (length w.cpus) ≡ true = grind (arith, nat_tests, some) in rw there refl
 
 -- after select_cpu nothing is changed, or the task is to go to a local queue
-abbrev pub IsAsked : ℕ → State → State → ℕ → ℕ → Type 0
+abbrev IsAsked : ℕ → State → State → ℕ → ℕ → Type 0
 IsAsked slice r u t c = (r ≡ with_world u (at_callback u.world callback.SelectCpu t c)) ⊎ (r ≡ with_world u (with_insert (at_callback u.world callback.SelectCpu t c) (idle_end slice)))
 
 asked_absent : (slice : ℕ) (u : State) (a : Args) (t c : ℕ) → acting u callback.SelectCpu ≡ None → IsInLine u.world → IsAsked slice (call_back u callback.SelectCpu a t c).state u t c
@@ -335,7 +336,7 @@ asked_there slice u t c q chooses there home sorted h = by (asked_so u.world t c
 woken_home : (w : WorldState) (t : ℕ) → IsSettled w → (task_at (after_wake w t) t).prev_cpu < length w.cpus
 woken_home w t settled = each_written (λ k (x : Task). x.prev_cpu < length w.cpus) w.tasks t _ no_task (settled.homes t) settled.homes t
 
-pub asked_lined : (slice : ℕ) (s : State) (t c : ℕ) → IsSettled s.world → IsKeptInLine slice s → let u = with_world s (after_wake s.world t) in IsAsked slice (call_back u callback.SelectCpu (task_cpu_and_0 t c) t c).state u t c
+asked_lined : (slice : ℕ) (s : State) (t c : ℕ) → IsSettled s.world → IsKeptInLine slice s → let u = with_world s (after_wake s.world t) in IsAsked slice (call_back u callback.SelectCpu (task_cpu_and_0 t c) t c).state u t c
 asked_lined slice s t c settled h = go s.world.ejected refl (program_of s.policy callback.SelectCpu) refl
   where
     u : State
@@ -349,29 +350,26 @@ asked_lined slice s t c settled h = go s.world.ejected refl (program_of s.policy
     go None force None is = asked_absent slice u (task_cpu_and_0 t c) t c (acts_not u callback.SelectCpu is) woken
     go None force (Some q) is = asked_there slice u t c q (subst (λ (p : Option VerifiedProgram). MayChoose slice p) is h.0.chooses) (acts u callback.SelectCpu q force is) (woken_home s.world t settled) settled.sorted woken
 
--- and then it comes to wait
-line_asked : (slice : ℕ) (s : State) (t d : ℕ) → IsSettled s.world → IsKeptInLine slice s → let u = with_world s (after_wake s.world t) in let c = (task_at u.world t).prev_cpu in let r = (call_back u callback.SelectCpu (task_cpu_and_0 t c) t c).state in (is_by_linux r ≡ false) × IsKeptInLine slice (insert_or_put r.world.call.insert r t d).state
-unfolding enters
-line_asked slice s t d settled h = go (asked_lined slice s t c settled h)
+-- with the task at hand
+abbrev pub asking : State → ℕ → WorldState
+asking s t = let w = after_wake s.world t in at_callback w callback.SelectCpu t (task_at w t).prev_cpu
+
+-- what holds in both cases
+pub by_asked : (P : State → Type 0) (slice : ℕ) (s : State) (t : ℕ) → IsSettled s.world → IsKeptInLine slice s → P (with_world s (asking s t)) → P (with_world s (with_insert (asking s t) (idle_end slice))) → P (after_asking s t)
+by_asked P slice s t settled h none some = go (asked_lined slice s t (task_at (after_wake s.world t) t).prev_cpu settled h)
   where
-    u : State
-    u = with_world s (after_wake s.world t)
+    go : IsAsked slice (after_asking s t) (with_world s (after_wake s.world t)) t (task_at (after_wake s.world t) t).prev_cpu → P (after_asking s t)
+    go (inl is) = subst P (sym is) none
+    go (inr is) = subst P (sym is) some
 
-    c : ℕ
-    c = (task_at u.world t).prev_cpu
-
-    w : WorldState
-    w = at_callback u.world callback.SelectCpu t c
-
-    at-hand : IsInLine w
-    at-hand = record { rules = h.1.rules; some = h.1.some; tracks = h.1.tracks; ready = h.1.ready; stall = h.1.stall }
-
-    Goal : State → Type 0
-    Goal r = (is_by_linux r ≡ false) × IsKeptInLine slice (insert_or_put r.world.call.insert r t d).state
-
-    go : IsAsked slice (call_back u callback.SelectCpu (task_cpu_and_0 t c) t c).state u t c → Goal (call_back u callback.SelectCpu (task_cpu_and_0 t c) t c).state
-    go (inl is) = subst Goal (sym is) (world_plain w h.1.rules, line_put slice (with_world u w) t d 1 refl (h.0, at-hand))
-    go (inr is) = subst Goal (sym is) (world_plain w h.1.rules, (h.0, line_entered (with_insert w (idle_end slice)) (local_on d) t slice (record { rules = h.1.rules; some = h.1.some; tracks = h.1.tracks; ready = h.1.ready; stall = h.1.stall })))
+-- and then it comes to wait
+line_asked : (slice : ℕ) (s : State) (t d : ℕ) → IsSettled s.world → IsKeptInLine slice s → let r = after_asking s t in (is_by_linux r ≡ false) × IsKeptInLine slice (insert_or_put r.world.call.insert r t d).state
+unfolding enters
+line_asked slice s t d settled h =
+    let w = asking s t in
+    by_asked (λ r. (is_by_linux r ≡ false) × IsKeptInLine slice (insert_or_put r.world.call.insert r t d).state) slice s t settled h
+    (world_plain w h.1.rules, line_put slice (with_world s w) t d 1 refl (h.0, record { rules = h.1.rules; some = h.1.some; tracks = h.1.tracks; ready = h.1.ready; stall = h.1.stall }))
+    (world_plain w h.1.rules, (h.0, line_entered (with_insert w (idle_end slice)) (local_on d) t slice (record { rules = h.1.rules; some = h.1.some; tracks = h.1.tracks; ready = h.1.ready; stall = h.1.stall })))
 
 -- ---- who is let go
 
@@ -391,20 +389,18 @@ let_go_plain slice s t h =
 pub line_let_one : (slice : ℕ) (s : State) (t : ℕ) → IsKeptInLine slice s → IsKeptInLine slice (let_go_one s t).state
 line_let_one slice s t h = subst (IsKeptInLine slice) (sym (let_go_plain slice s t h)) (line_put slice (with_world s (let_go s.world t)) t (task_at s.world t).prev_cpu 0 refl (line_let slice s t h))
 
-line_let_go_from : (slice j : ℕ) (s : State) (at : Option ℕ) → IsKeptInLine slice s → IsKeptInLine slice (let_go_from j s at).state
-unfolding let_go_from
-line_let_go_from slice zero s at h = h
-line_let_go_from slice (suc j) s None h = h
-line_let_go_from slice (suc j) s (Some t) h =
-    let next = behind_of s.world.queues t in
-    let r = let_go_one s t in
-    keeps_if (λ (v : Stepped). IsKeptInLine slice v.state) (is_throttled s.world t) (let_go_from j s next) (one_after_other r (let_go_from j r.state next)) (line_let_go_from slice j s next h)
-    (line_let_go_from slice j r.state next (line_let_one slice s t h))
+one_let_go : (slice : ℕ) → IsOneLetGo (IsKeptInLine slice) (λ s o. Unit {0}) (λ s r. IsKeptInLine slice r.state)
+one_let_go slice = record {
+  none = λ s h. h;
+  joined = λ s a r x y. y;
+  passed = λ s t here. tt;
+  one = λ s t here h. let x = line_let_one slice s t h in (x, x, tt);
+}
 
 -- ---- all small steps
 
 pub keeps_line : (slice : ℕ) → IsKeptPlainly (λ t. Unit {0}) (IsKeptInLine slice)
-unfolding fill park let_all_go
+unfolding fill park
 keeps_line slice = record {
   plain = λ s h. world_plain s.world h.1.rules;
   filled = λ s q c own h. (h.0, line_brought (fill_front s.world q c) s.world c h.1);
@@ -412,8 +408,7 @@ keeps_line slice = record {
   removed = λ s t may h. (h.0, line_left s.world t h.1);
   parked = λ s t h. (h.0, line_parked s.world t h.1);
   dispatched = λ s a c h. line_dispatched slice s a c h;
-  stopping = λ s a t c h. line_absent slice s callback.Stopping a t c h.0.stops refl h;
-  running = λ s a t c h. line_absent slice s callback.Running a t c h.0.runs refl h;
+  told = λ s b a t c is h. subst (IsKeptInLine slice) (sym (nothing_told slice s b a t c is h.0)) (h.0, line_at s.world b t c h.1);
   charged = λ s t h. (h.0, with_record s.world t _ h.1);
   caught_up = λ s t h. (h.0, record { rules = h.1.rules; some = h.1.some; tracks = h.1.tracks; ready = h.1.ready; stall = h.1.stall });
   stopped = λ s c t h. (h.0, line_stopped s.world c t h.1);
@@ -427,7 +422,7 @@ keeps_line slice = record {
   ticked = λ s t h. (h.0, with_record s.world t _ h.1);
   used = λ s t h. (h.0, keeps_if IsInLine (nat_lt t (length s.world.tasks)) _ s.world (record { rules = h.1.rules; some = h.1.some; tracks = h.1.tracks; ready = h.1.ready; stall = h.1.stall }) h.1);
   later = λ s h. (h.0, record { rules = h.1.rules; some = h.1.some; tracks = h.1.tracks; ready = h.1.ready; stall = h.1.stall });
-  lets_go = λ s h. line_let_go_from slice (len_of s.world.queues parked_queue) s (front_of s.world.queues parked_queue) h;
+  lets_go = λ s h. parked_let_go (IsKeptInLine slice) (λ s o. Unit {0}) (λ s r. IsKeptInLine slice r.state) (one_let_go slice) s tt h;
   stalled = λ s t h. (subst (λ (p : PolicyState). IsLine slice p) (sym (eject_policy s (cause.Stall t s.world.clock))) h.0, line_stalled s t s.world.clock h.1);
   reweighed = λ s g x h. (h.0, keeps_if IsInLine (is_none (weight_fault s.world.tree g x)) _ s.world (record { rules = h.1.rules; some = h.1.some; tracks = h.1.tracks; ready = h.1.ready; stall = h.1.stall }) h.1);
   weighed = λ s t x h. (h.0, keeps_if IsInLine (is_none (own_weight_fault s.world.tree t x)) _ s.world (record { rules = h.1.rules; some = h.1.some; tracks = h.1.tracks; ready = h.1.ready; stall = h.1.stall }) h.1);

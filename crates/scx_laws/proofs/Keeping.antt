@@ -1,13 +1,15 @@
 -- All events of a policy of one line keep what each change of the queues keeps: a task comes to the end of a queue, and
 -- leaves the line at its front, or as it goes to sleep.
-use Rattle.std.proofs.Common.{◌≡◌, ℕ, zero, suc, ◌≤◌, Bool, true, false, ◌&&◌, inl, inr, nat_lt, nat_le, if◌then◌else◌, length, Option, Some, None, is_some, is_none, option_map, refl, sym, ap, ◌∙◌, subst, arith}
+use Rattle.std.proofs.Common.{◌≡◌, ℕ, ◌≤◌, Bool, true, false, ◌&&◌, nat_lt, nat_le, if◌then◌else◌, length, Option, Some, None, is_some, is_none, option_map, refl, sym, ap, ◌∙◌, subst, arith}
+use Rattle.scx_laws.proofs.Ejecting.{put_stays}
+use Rattle.scx_sched.proofs.Blaming.{apart}
+use Rattle.scx_sched.proofs.Waiting.{removed_other}
 use Rattle.std.proofs.lemmas.List.{get_or-set_other}
 use Rattle.scx_dsq.specs.declared.entries.Entry.{Entry}
 use Rattle.scx_dsq.specs.declared.entries.Rank.{Rank}
 use Rattle.scx_dsq.specs.declared.entries.Rank.TheVariants.{Fifo}
-use Rattle.scx_dsq.specs.Queues.{QueueState, entry_of, queue_of, len_of, front_of, behind_of}
-use Rattle.scx_dsq.specs.Calls.{push_refusal, next_entry, with_task as with_place, without_task, without, after_push, after_remove}
-use Rattle.scx_isa_semantics.specs.declared.callbacks.Callback.{Callback}
+use Rattle.scx_dsq.specs.Queues.{QueueState, entry_of, queue_of, front_of, behind_of}
+use Rattle.scx_dsq.specs.Calls.{push_refusal, next_entry, with_task as with_place, without_task, without, after_push}
 use Rattle.scx_isa_semantics.specs.declared.callbacks.Callback.TheVariants as callback
 use Rattle.scx_isa_semantics.specs.declared.rules.Rules.{Rules}
 use Rattle.scx_vm.specs.declared.arguments.Args.{Args}
@@ -17,25 +19,24 @@ use Rattle.scx_sched_world.specs.declared.eject.Eject.{Eject}
 use Rattle.scx_sched_world.specs.declared.eject.Eject.TheVariants as cause
 use Rattle.scx_sched_world.specs.Ids.{policy_end, parked_queue, local_on}
 use Rattle.scx_sched_world.specs.World as world
-use Rattle.scx_sched_world.specs.World.{WorldState, with_queues, with_task, task_at, are_linux, is_throttled, binds, at_callback, quiet}
-use Rattle.scx_sched_world.specs.Tasks.{with_since, with_home, local_len, after_wake, after_leave, after_local, local_cpu, homed, homed_at, after_enter, brought, fill_front, started_at, after_keep, let_go, put_parked, next_for}
+use Rattle.scx_sched_world.specs.World.{WorldState, with_queues, with_task, task_at, are_linux, binds, at_callback, quiet}
+use Rattle.scx_sched_world.specs.Tasks.{with_since, with_home, local_len, after_leave, after_local, local_cpu, homed, homed_at, after_enter, brought, fill_front, started_at, after_keep, let_go, put_parked, next_for}
 use Rattle.scx_sched_world.specs.Helpers.{with_insert, moved_to_local}
 use Rattle.scx_sched_world.specs.Ejecting.{put_builtin}
 use Rattle.scx_sched_world.proofs.Fronts.{front_in, unbound_next, AtParked, at_front, at_behind, behind_in}
-use Rattle.scx_sched_machine.specs.Steps.{State, Stepped, with_world, one_after_other}
+use Rattle.scx_sched_machine.specs.Steps.{State, with_world}
 use Rattle.scx_sched_machine.specs.Ejecting.{eject}
-use Rattle.scx_sched_policy.specs.Policy.{program_of}
-use Rattle.scx_sched_machine.specs.Callbacks.{answer_fault, call_back, task_cpu_and_0}
+use Rattle.scx_sched_machine.specs.Callbacks.{call_back}
 use Rattle.scx_sched_machine.specs.Put.{enters, put}
 use Rattle.scx_sched_machine.specs.Filling.{fill}
-use Rattle.scx_sched_machine.specs.Parking.{park, let_go_one, let_go_from, let_all_go}
+use Rattle.scx_sched_machine.specs.Parking.{park, let_go_one}
 use Rattle.scx_sched_machine.specs.Events.{insert_or_put}
 use Rattle.scx_sched_machine.proofs.Choices.{keeps_if}
 use Rattle.scx_sched.proofs.Seen.{next_seen}
 use Rattle.scx_sched.proofs.Unchanged.{eject_sets}
 use Rattle.scx_laws.proofs.Choosing.{idle_end}
-use Rattle.scx_laws.proofs.Walking.{IsSettled, IsKeptPlainly}
-use Rattle.scx_laws.proofs.InLine.{IsKeptInLine, end_of, line_end, IsAsked, put_lined, put_out_of_force, dispatch_lined, nothing_called, out_acts, acts_not, asked_lined, line_let, let_go_plain, line_let_one, keeps_line}
+use Rattle.scx_laws.proofs.Walking.{IsOneLetGo, parked_let_go, after_asking, IsSettled, IsKeptPlainly}
+use Rattle.scx_laws.proofs.InLine.{IsKeptInLine, end_of, line_end, put_lined, put_out_of_force, dispatch_lined, nothing_called, out_acts, nothing_told, asking, by_asked, line_let, let_go_plain, line_let_one, keeps_line}
 
 -- the task that fills a local queue is the first one that may
 pub filled_is : (w : WorldState) (q c x : ℕ) → fill_front w q c ≡ Some x → next_for w q c ≡ Some x
@@ -59,10 +60,6 @@ module _ (MaySleep : ℕ → Type 0) (Q : QueueState → Type 0) (k : KeepsQueue
   -- as long as the policy is in force
   abbrev pub InForce : WorldState → Type 0
   InForce w = w.ejected ≡ None → Q w.queues
-
-  -- a policy is in force or out of it
-  never : (o : Option Eject) (x : Eject) → o ≡ None → o ≡ Some x → ⊥
-  never o x force out = absurd (cc)
 
   in_homed : (w : WorldState) (x c : ℕ) → InForce w → InForce (homed w x c)
   in_homed w x c h = keeps_if InForce (world.is_by_linux w) (with_task w x (with_home (task_at w x) c)) w h h
@@ -96,10 +93,7 @@ module _ (MaySleep : ℕ → Type 0) (Q : QueueState → Type 0) (k : KeepsQueue
 
   -- where a world is out of force nothing is said of it
   in_out : (w : WorldState) (x : Eject) → w.ejected ≡ Some x → InForce w
-  in_out w x out force = absurd (never w.ejected x force out)
-
-  ejected_builtin : (w : WorldState) (x : ℕ) → (put_builtin w x).ejected ≡ w.ejected
-  ejected_builtin w x = keeps_if (λ (v : WorldState). v.ejected ≡ w.ejected) (nat_lt x (length w.tasks)) _ w refl refl
+  in_out w x out force = absurd (apart w.ejected x force out)
 
   -- ---- steps
 
@@ -117,7 +111,7 @@ module _ (MaySleep : ℕ → Type 0) (Q : QueueState → Type 0) (k : KeepsQueue
             subst (λ (v : State). InForce v.world) (sym (put_lined slice s x c flags few force h.0)) (in_entered w 0 x slice h.1)
         go (Some y) out =
             let w = at_callback s.world callback.Enqueue x c in
-            subst (λ (v : State). InForce v.world) (sym (put_out_of_force s x c flags y out)) (in_out (put_builtin w x) y (ejected_builtin w x ∙ out))
+            subst (λ (v : State). InForce v.world) (sym (put_out_of_force s x c flags y out)) (in_out (put_builtin w x) y (put_stays w x ∙ out))
 
     dispatches_with : (s : State) (a : Args) (c : ℕ) → IsInLineWith s → InForce (call_back s callback.Dispatch a 0 c).state.world
     dispatches_with s a c h = go s.world.ejected refl
@@ -141,9 +135,6 @@ module _ (MaySleep : ℕ → Type 0) (Q : QueueState → Type 0) (k : KeepsQueue
     pushed_other : (s : QueueState) (q x : ℕ) (r : Rank) (v : ℕ) → (v ≡ x → ⊥) → entry_of (after_push s q x r) v ≡ entry_of s v
     pushed_other s q x r v other = keeps_if (λ (k : QueueState). entry_of k v ≡ entry_of s v) (is_none (push_refusal s q x r)) (with_place s q x r) s (get_or-set_other {A = Option Entry} s.entries x v (Some (next_entry s q r)) None other) refl
 
-    removed_other : (s : QueueState) (x v : ℕ) → (v ≡ x → ⊥) → entry_of (after_remove s x) v ≡ entry_of s v
-    removed_other s x v other = keeps_if (λ (k : QueueState). entry_of k v ≡ entry_of s v) (is_some (entry_of s x)) (without_task s x) s (get_or-set_other {A = Option Entry} s.entries x v None None other) refl
-
     entered_other : (w : WorldState) (x v : ℕ) → (v ≡ x → ⊥) → entry_of (after_enter w x (line_end slice)).queues v ≡ entry_of w.queues v
     entered_other w x v other = keeps_if (λ (k : WorldState). entry_of k.queues v ≡ entry_of w.queues v) (nat_lt x (length w.tasks)) _ w (pushed_other w.queues 0 x Fifo v other) refl
 
@@ -164,7 +155,7 @@ module _ (MaySleep : ℕ → Type 0) (Q : QueueState → Type 0) (k : KeepsQueue
     still_out s x y h out =
         let c = (task_at s.world x).prev_cpu in
         let r = with_world s (let_go s.world x) in
-        ap (λ (k : State). k.world.ejected) (let_go_plain slice s x h.0 ∙ put_out_of_force r x c 0 y out) ∙ (ejected_builtin (at_callback r.world callback.Enqueue x c) x ∙ out)
+        ap (λ (k : State). k.world.ejected) (let_go_plain slice s x h.0 ∙ put_out_of_force r x c 0 y out) ∙ (put_stays (at_callback r.world callback.Enqueue x c) x ∙ out)
 
     lets_with : (s : State) (x : ℕ) → (s.world.ejected ≡ None → queue_of s.world.queues x ≡ Some parked_queue) → IsInLineWith s → IsInLineWith (let_go_one s x).state
     lets_with s x at h =
@@ -173,47 +164,34 @@ module _ (MaySleep : ℕ → Type 0) (Q : QueueState → Type 0) (k : KeepsQueue
         let y : IsInLineWith r = (line_let slice s x h.0, in_left (with_task s.world x (with_since (task_at s.world x) (Some s.world.clock))) x (λ force. k.own s.world.queues parked_queue x (omega arith) (at force)) h.1) in
         (line_let_one slice s x h.0, subst (λ (k : State). InForce k.world) (sym (let_go_plain slice s x h.0)) (puts_with r x c 0 refl y))
 
-    lets_with_all : (j : ℕ) (s : State) (at : Option ℕ) → (s.world.ejected ≡ None → AtParked s.world.queues at) → IsInLineWith s → IsInLineWith (let_go_from j s at).state
-    unfolding let_go_from
-    lets_with_all zero s at there h = h
-    lets_with_all (suc j) s None there h = h
-    lets_with_all (suc j) s (Some x) there h =
-        let next = behind_of s.world.queues x in
-        let r = let_go_one s x in
-        keeps_if (λ (v : Stepped). IsInLineWith v.state) (is_throttled s.world x) (let_go_from j s next) (one_after_other r (let_go_from j r.state next)) (lets_with_all j s next (λ force. at_behind s.world.queues x next (there force) refl) h)
-        (lets_with_all j r.state next (still next refl s.world.ejected refl) (lets_with s x there h))
+    -- while the policy is in force the next one is parked
+    abbrev ParkedInForce : State → Option ℕ → Type 0
+    ParkedInForce s o = s.world.ejected ≡ None → AtParked s.world.queues o
+
+    one_let_go : IsOneLetGo IsInLineWith ParkedInForce (λ s r. IsInLineWith r.state)
+    one_let_go = record {
+      none = λ s h. h;
+      joined = λ s a r x y. y;
+      passed = λ s x there. λ force. at_behind s.world.queues x (behind_of s.world.queues x) (there force) refl;
+      one = λ s x there h. let y = lets_with s x there h in (y, y, still s x there h (behind_of s.world.queues x) refl s.world.ejected refl);
+    }
       where
-        still : (o : Option ℕ) → behind_of s.world.queues x ≡ o → (k : Option Eject) → s.world.ejected ≡ k → (let_go_one s x).state.world.ejected ≡ None → AtParked (let_go_one s x).state.world.queues o
-        still o e None force after = parked_still s x o h force (there force) e
-        still o e (Some y) out after = absurd (never (let_go_one s x).state.world.ejected y after (still_out s x y h out))
+        still : (s : State) (x : ℕ) → ParkedInForce s (Some x) → IsInLineWith s → (o : Option ℕ) → behind_of s.world.queues x ≡ o → (k : Option Eject) → s.world.ejected ≡ k → ParkedInForce (let_go_one s x).state o
+        still s x there h o e None force after = parked_still s x o h force (there force) e
+        still s x there h o e (Some y) out after = absurd (apart (let_go_one s x).state.world.ejected y after (still_out s x y h out))
 
     -- ---- all small steps
 
-    absent_with : (s : State) (b : Callback) (a : Args) (x c : ℕ) → program_of s.policy b ≡ None → answer_fault b (at_callback s.world b x c) 0 ≡ None → IsInLineWith s → InForce (call_back s b a x c).state.world
-    absent_with s b a x c none right h = subst (λ (v : State). InForce v.world) (sym (nothing_called s b a x c (acts_not s b none) right)) h.1
-
-    asks_with : (s : State) (x d : ℕ) → IsSettled s.world → IsInLineWith s → let v = with_world s (after_wake s.world x) in let c = (task_at v.world x).prev_cpu in let r = (call_back v callback.SelectCpu (task_cpu_and_0 x c) x c).state in InForce (insert_or_put r.world.call.insert r x d).state.world
+    asks_with : (s : State) (x d : ℕ) → IsSettled s.world → IsInLineWith s → let r = after_asking s x in InForce (insert_or_put r.world.call.insert r x d).state.world
     unfolding enters
-    asks_with s x d settled h = go (asked_lined slice s x c settled h.0)
-      where
-        v : State
-        v = with_world s (after_wake s.world x)
-
-        c : ℕ
-        c = (task_at v.world x).prev_cpu
-
-        w : WorldState
-        w = at_callback v.world callback.SelectCpu x c
-
-        Goal : State → Type 0
-        Goal r = InForce (insert_or_put r.world.call.insert r x d).state.world
-
-        go : IsAsked slice (call_back v callback.SelectCpu (task_cpu_and_0 x c) x c).state v x c → Goal (call_back v callback.SelectCpu (task_cpu_and_0 x c) x c).state
-        go (inl is) = subst Goal (sym is) (puts_with (with_world v w) x d 1 refl ((h.0.0, record { rules = h.0.1.rules; some = h.0.1.some; tracks = h.0.1.tracks; ready = h.0.1.ready; stall = h.0.1.stall }), h.1))
-        go (inr is) = subst Goal (sym is) (in_entered (with_insert w (idle_end slice)) (local_on d) x slice h.1)
+    asks_with s x d settled h =
+        let w = asking s x in
+        by_asked (λ r. InForce (insert_or_put r.world.call.insert r x d).state.world) slice s x settled h.0
+        (puts_with (with_world s w) x d 1 refl ((h.0.0, record { rules = h.0.1.rules; some = h.0.1.some; tracks = h.0.1.tracks; ready = h.0.1.ready; stall = h.0.1.stall }), h.1))
+        (in_entered (with_insert w (idle_end slice)) (local_on d) x slice h.1)
 
     pub keeps_queue : IsKeptPlainly MaySleep IsInLineWith
-    unfolding fill park let_all_go
+    unfolding fill park
     keeps_queue =
         let line = keeps_line slice in
         record {
@@ -223,8 +201,7 @@ module _ (MaySleep : ℕ → Type 0) (Q : QueueState → Type 0) (k : KeepsQueue
           removed = λ s x may h. (line.removed s x tt h.0, in_left s.world x (λ force. k.asleep s.world.queues x may) h.1);
           parked = λ s x h. (line.parked s x h.0, in_parked s.world x h.1);
           dispatched = λ s a c h. (line.dispatched s a c h.0, dispatches_with s a c h);
-          stopping = λ s a x c h. (line.stopping s a x c h.0, absent_with s callback.Stopping a x c h.0.0.stops refl h);
-          running = λ s a x c h. (line.running s a x c h.0, absent_with s callback.Running a x c h.0.0.runs refl h);
+          told = λ s b a x c is h. (line.told s b a x c is h.0, subst (λ (v : State). InForce v.world) (sym (nothing_told slice s b a x c is h.0.0)) h.1);
           charged = λ s x h. (line.charged s x h.0, h.1);
           caught_up = λ s x h. (line.caught_up s x h.0, h.1);
           stopped = λ s c x h. (line.stopped s c x h.0, h.1);
@@ -238,7 +215,7 @@ module _ (MaySleep : ℕ → Type 0) (Q : QueueState → Type 0) (k : KeepsQueue
           ticked = λ s x h. (line.ticked s x h.0, h.1);
           used = λ s x h. (line.used s x h.0, keeps_if InForce (nat_lt x (length s.world.tasks)) _ s.world h.1 h.1);
           later = λ s h. (line.later s h.0, h.1);
-          lets_go = λ s h. lets_with_all (len_of s.world.queues parked_queue) s (front_of s.world.queues parked_queue) (λ force. at_front s.world.queues (front_of s.world.queues parked_queue) refl) h;
+          lets_go = λ s h. parked_let_go IsInLineWith ParkedInForce (λ s r. IsInLineWith r.state) one_let_go s (λ force. at_front s.world.queues (front_of s.world.queues parked_queue) refl) h;
           stalled = λ s x h. (line.stalled s x h.0, in_out (eject s (cause.Stall x s.world.clock)).state.world (cause.Stall x s.world.clock) (eject_sets s (cause.Stall x s.world.clock)).1);
           reweighed = λ s g x h. (line.reweighed s g x h.0, keeps_if InForce (is_none (weight_fault s.world.tree g x)) _ s.world h.1 h.1);
           weighed = λ s y x h. (line.weighed s y x h.0, keeps_if InForce (is_none (own_weight_fault s.world.tree y x)) _ s.world h.1 h.1);

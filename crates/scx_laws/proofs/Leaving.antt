@@ -1,5 +1,7 @@
 -- A machine of such a policy stays one, through all events.
-use Rattle.std.proofs.Common.{◌≡◌, ℕ, zero, suc, Bool, true, false, ◌&&◌, ◌||◌, ◌<◌, if◌then◌else◌, List, [], ◌∷◌, length, set, get_or, Option, Some, None, is_none, is_some, Ok, refl, sym, ap, ◌∙◌, subst, arith}
+use Rattle.std.proofs.Common.{◌≡◌, ℕ, zero, suc, Bool, true, false, ◌&&◌, ◌<◌, inl, if◌then◌else◌, List, [], ◌∷◌, length, set, get_or, Option, Some, None, is_none, is_some, Ok, refl, sym, ap, ◌∙◌, subst, arith}
+use Rattle.std.proofs.lemmas.Bool.{or_parts}
+use Rattle.std.proofs.lemmas.Option.{same_Some}
 use Rattle.std.specs.List.{AllByRecursion, list_any}
 use Rattle.std.proofs.lemmas.List.{set_past}
 use Rattle.std.proofs.lemmas.List.Quantifiers.{position-Some}
@@ -20,11 +22,10 @@ use Rattle.scx_sched_machine.specs.declared.events.Event.{Event}
 use Rattle.scx_sched_machine.specs.declared.events.Event.TheVariants.{Wake, Sleep, Tick, Clock, SetWeight, SetTaskWeight}
 use Rattle.scx_sched_machine.specs.declared.events.Refused.{Refused}
 use Rattle.scx_sched_policy.specs.Policy.{PolicyState}
-use Rattle.scx_sched_machine.specs.Steps.{State, Stepped, one_after_other, is_by_linux}
+use Rattle.scx_sched_machine.specs.Steps.{State, Stepped, is_by_linux}
 use Rattle.scx_sched_machine.specs.Callbacks.{acting}
 use Rattle.scx_sched_machine.specs.Events as machine
-use Rattle.scx_sched_machine.specs.Events.{sleep_from, sleep, tick, sleep_from_cpu}
-use Rattle.scx_sched_machine.specs.Rounds.{most_rounds, rounds, with_rounds}
+use Rattle.scx_sched_machine.specs.Events.{sleep_from, sleep, tick}
 use Rattle.scx_sched_machine.specs.Start.{by_policy, first_state}
 use Rattle.scx_sched.specs.Decided.{used_at_tick, tree_after}
 use Rattle.scx_sched.specs.Sim.{SimState, refusal, stepped_if, after_event}
@@ -38,7 +39,9 @@ use Rattle.scx_sched.proofs.Unchanged.{same_called}
 use Rattle.scx_laws.specs.Runs.{IsBegun, after_events}
 use Rattle.scx_laws.specs.Serving.{ServesQueues, IdlesForNobody, looks, StepLeavesNobody, NobodyIsLeft}
 use Rattle.scx_laws.proofs.Sound.{as_many, IsFirm, firm_first, firm_step}
-use Rattle.scx_laws.proofs.Emptying.{NoneNext, EmptiesIfIdle, IsShared, tick_empties, IsSlept, sleep_empties}
+use Rattle.scx_laws.proofs.Plain.{rounds_plain}
+use Rattle.scx_laws.proofs.Emptying.{NoneNext, EmptiesIfIdle}
+use Rattle.scx_laws.proofs.Finding.{IsServing, tick_empties, IsSlept, sleep_empties}
 
 -- ---- one tick
 
@@ -65,36 +68,28 @@ none_waits qs s c plain h force idle =
     let unbound : binds w ≡ false = ap (λ b. b && groups-of.binds w.tree) (rules_plain (are_linux w.rules) w.ejected plain force) in
     record { served = none_in_any w c qs unbound x.1.1; local = x.0; global = none_in w global c unbound x.1.0 }
 
--- by plain rules no round follows
-no_round : (r : Stepped) → is_by_linux r.state ≡ false → with_rounds r ≡ r
-unfolding with_rounds
-no_round r plain = ap (λ b. if b then one_after_other r (rounds most_rounds r.state) else r) plain
-
 -- the law of a step
 pub step_leaves_none : StepLeavesNobody
 unfolding sleep
 step_leaves_none qs n e s v c serves plain free h ok at = go v (is_taken s v ok) at
   where
-    such : IsShared qs s
-    such = record { serves = serves; plain = plain; free = free }
-
-    same : (a b : ℕ) → Some a ≡ Some b → a ≡ b
-    same a b e = cc
+    such : IsServing qs s
+    such = record { serves = serves; quiet = inl plain; free = free }
 
     ticked : (d : ℕ) → d < length s.world.cpus → IdlesForNobody qs (machine.event_step s (Tick d)).state.world d
     ticked d l =
         let still = tick_plain s e (as_many n e s.world h) d l plain in
-        subst (λ (r : Stepped). IdlesForNobody qs r.state.world d) (sym (no_round (tick s d) still)) (none_waits qs (tick s d).state d still (tick_empties qs n e s d such l h))
+        subst (λ (r : Stepped). IdlesForNobody qs r.state.world d) (sym (rounds_plain (tick s d) still)) (none_waits qs (tick s d).state d still (tick_empties qs n e s d plain such l h))
 
     slept : (t : ℕ) → t < length s.world.tasks → cpu_of s.world t ≡ Some c → IdlesForNobody qs (machine.event_step s (Sleep t)).state.world c
     slept t within runs =
         let x = position-Some (is_this t) s.world.cpus c None runs in
-        let y = sleep_empties qs n e s t c such (omega (arith, within, h.sound.tasks)) x.0 (is_task t (get_or s.world.cpus c None) x.1) h in
+        let y = sleep_empties qs n e s t c plain such (omega (arith, within, h.sound.tasks)) x.0 (is_task t (get_or s.world.cpus c None) x.1) h in
         let own : IsSlept qs (sleep s t).state c = subst (λ o. IsSlept qs (sleep_from o s t).state c) (sym runs) y in
-        subst (λ (r : Stepped). IdlesForNobody qs r.state.world c) (sym (no_round (sleep s t) own.plain)) (none_waits qs (sleep s t).state c own.plain own.empties)
+        subst (λ (r : Stepped). IdlesForNobody qs r.state.world c) (sym (rounds_plain (sleep s t) own.plain)) (none_waits qs (sleep s t).state c own.plain own.empties)
 
     go : (v : Event) → IsTaken s v → looks s.world v ≡ Some c → IdlesForNobody qs (machine.event_step s v).state.world c
-    go _ (Ticks d l) at = subst (λ k. IdlesForNobody qs (machine.event_step s (Tick d)).state.world k) (same d c at) (ticked d l)
+    go _ (Ticks d l) at = subst (λ k. IdlesForNobody qs (machine.event_step s (Tick d)).state.world k) (same_Some d c at) (ticked d l)
     go _ (Sleeps t within runnable) at = slept t within at
     go _ (Wakes t within resting) at = absurd (cc)
     go _ Clocks at = absurd (cc)
@@ -102,10 +97,6 @@ step_leaves_none qs n e s v c serves plain free h ok at = go v (is_taken s v ok)
     go _ (WeighsTask t x within) at = absurd (cc)
 
 -- ---- no quotas come
-
-or_parts : (a b : Bool) → (a || b) ≡ false → (a ≡ false) × (b ≡ false)
-or_parts true b e = absurd (cc)
-or_parts false b e = (refl, e)
 
 none_set : {X : Type 0} (test : X → Bool) (xs : List X) (k : ℕ) (y : X) → list_any test xs ≡ false → test y ≡ false → list_any test (set xs k y) ≡ false
 none_set test [] k y none e = ap (λ zs. list_any test zs) (set_past [] k y (omega arith))

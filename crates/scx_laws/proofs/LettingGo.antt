@@ -1,5 +1,6 @@
 -- The walk over the parked as the clock grows.
 use Rattle.std.proofs.Common.{◌≡◌, ℕ, zero, suc, ◌<◌, ◌≤◌, ◌⊎◌, inl, inr, Bool, true, false, ◌==◌, ◌&&◌, nat_lt, nat_le, if◌then◌else◌, List, length, Option, Some, None, is_some, option_map, refl, sym, ap, ◌∙◌, subst, arith}
+use Rattle.std.proofs.lemmas.Option.{same_Some}
 use Rattle.std.proofs.lemmas.Bool.{cases_eq, cases_lt, eqb-true, and_parts}
 use Rattle.scx_dsq.specs.declared.entries.Entry.{Entry}
 use Rattle.scx_dsq.specs.Queues.{QueueState, task_count, entry_of, len_of, front_of, behind_of}
@@ -40,9 +41,6 @@ line_of g = record {
 abbrev Fits : ℕ → QueueState → Option ℕ → Type 0
 Fits j s None = Unit {0}
 Fits j s (Some t) = (p : Entry) → entry_of s t ≡ Some p → many_from p.stamp s.entries ≤ j
-
-same_entry : (p q : Entry) → Some p ≡ Some q → p ≡ q
-same_entry p q e = cc
 
 -- a task with an entry is one of the machine's
 parked_known : (s : QueueState) (t : ℕ) (p : Entry) → entry_of s t ≡ Some p → t < task_count s
@@ -152,7 +150,7 @@ module _ (g : Hierarchy) (s s' : QueueState) (t : ℕ) (h : AreInLine s) (next :
 
   -- one that comes later is another one
   other : (v : ℕ) (r : Entry) → entry_of s v ≡ Some r → p.stamp < r.stamp → v ≡ t → ⊥
-  other v r there lt same = let is : r ≡ p = same_entry r p (sym there ∙ (ap (λ k. entry_of s k) same ∙ next.here)) in omega (arith, lt, ap (λ (q : Entry). q.stamp) is)
+  other v r there lt same = let is : r ≡ p = same_Some r p (sym there ∙ (ap (λ k. entry_of s k) same ∙ next.here)) in omega (arith, lt, ap (λ (q : Entry). q.stamp) is)
 
   covers_next : (o : Option ℕ) → behind_of s t ≡ o → Covers s' g o
   covers_next None e = λ u q f at. by u q f at (later_or u q f at)
@@ -194,7 +192,7 @@ module _ (g : Hierarchy) (s s' : QueueState) (t : ℕ) (h : AreInLine s) (next :
         where
           by : (b : Bool) → (q.queue == parked_queue) ≡ b → from_stamp r.stamp (Some q) ≡ 0
           by true at =
-              let is : q ≡ p = same_entry q p (sym (past.were t q e (eqb-true q.queue parked_queue at)) ∙ next.here) in
+              let is : q ≡ p = same_Some q p (sym (past.were t q e (eqb-true q.queue parked_queue at)) ∙ next.here) in
               isnt_counted r.stamp q (omega (arith, lt, ap (λ (x : Entry). x.stamp) is))
           by false out = away r.stamp q out
 
@@ -202,7 +200,7 @@ module _ (g : Hierarchy) (s s' : QueueState) (t : ℕ) (h : AreInLine s) (next :
   fits_next j fits None e = tt
   fits_next j fits (Some v) e = λ q k.
       let f = follows s g h t p next.here next.parked (Some v) e in
-      let is : f.entry ≡ q = same_entry f.entry q (sym (past.stay v f.entry (other v f.entry f.there f.later) f.there f.parked) ∙ k) in
+      let is : f.entry ≡ q = same_Some f.entry q (sym (past.stay v f.entry (other v f.entry f.there f.later) f.there f.parked) ∙ k) in
       let less : many_from f.entry.stamp s'.entries < many_from p.stamp s.entries = fewer f.entry f.later in
       subst (λ (x : Entry). many_from x.stamp s'.entries ≤ j) is (omega (arith, less, fits))
 

@@ -22,11 +22,11 @@ mod Adding
 pub mod Moving
 mod Known
 mod Saying
-mod Emptying
-mod Leaving
-mod Finding
-mod Lining
 mod Plain
+mod Emptying
+mod Finding
+mod Leaving
+mod Lining
 mod Walking
 mod Choosing
 mod InLine

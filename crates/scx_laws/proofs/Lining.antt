@@ -1,35 +1,24 @@
 -- The runs of programs of init and enqueue, computed from their instructions.
-use Rattle.std.proofs.Common.{◌≡◌, ℕ, Bool, true, false, ◌==◌, if◌then◌else◌, Option, Some, None, refl, ap, ◌∙◌}
-use Rattle.scx_isa_semantics.specs.declared.callbacks.Callback.{Callback}
+use Rattle.std.proofs.Common.{◌≡◌, ℕ, Bool, true, false, ◌==◌, if◌then◌else◌, Option, Some, None, refl, ◌∙◌}
 use Rattle.scx_isa_semantics.specs.declared.callbacks.Callback.TheVariants as callback
 use Rattle.scx_isa_semantics.specs.declared.values.Value.TheVariants as value
 use Rattle.scx_isa_semantics.specs.declared.values.Pointer.TheVariants as pointer
 use Rattle.scx_isa_semantics.specs.Calls.{after_call}
-use Rattle.scx_isa_semantics.specs.Code.{Code}
 use Rattle.scx_isa_semantics.specs.Elements.{Maps}
 use Rattle.scx_isa_semantics.specs.Endings.{Ending, run_within, run_of}
 use Rattle.scx_isa_semantics.specs.Machine.{with_register, start}
 use Rattle.scx_vm.specs.Arguments.{program_arguments}
 use Rattle.scx_vm.specs.Host.{answer_to, after_query}
-use Rattle.scx_vm.specs.Programs.{VerifiedProgram}
 use Rattle.scx_vm.specs.declared.arguments.Args.{Args}
 use Rattle.scx_dsq.specs.Laws.{one_if}
 use Rattle.scx_sched_world.specs.declared.faults.Fault.{Fault}
 use Rattle.scx_sched_world.specs.World.{WorldState}
 use Rattle.scx_sched_world.specs.Helpers.{invalid, after_create_dsq, create_answer, after_insert, choice_answer, after_choice, ask_fault, unless_fault, seems_idle, idle_answer, after_idle, world_functions}
-use Rattle.scx_sched_machine.specs.Callbacks.{call_ending, task_cpu_and_0, task_and_number}
+use Rattle.scx_sched_machine.specs.Callbacks.{task_cpu_and_0, task_and_number}
+use Rattle.scx_laws.proofs.Moving.{runs, called, answers}
 use Rattle.scx_laws.specs.Lines.{to_line, to_idle, one_line, line_with, to_idle_with, EachCreates, EachLinesUp, EachChooses}
 
--- the run of such a program as that callback
-abbrev runs : Callback → Code → Args → Maps → WorldState → Ending WorldState
-runs b code a maps w = run_of (answer_to world_functions) (after_query world_functions) b code (program_arguments a) maps w
-
--- a program is run as the world's callback
-called : (b : Callback) (code : Code) (p : VerifiedProgram) (a : Args) (maps : Maps) (w : WorldState) → p.code ≡ code → call_ending (Some p) b a maps w ≡ runs b code a maps w
-unfolding call_ending
-called b code p a maps w e = ap (λ (k : Code). runs b k a maps w) e
-
-run_init : (a : Args) (maps : Maps) (w : WorldState) → runs callback.Init one_line a maps w ≡ record { answer = Some (create_answer w 0); maps = maps; outside = after_create_dsq w 0 }
+run_init : (a : Args) (maps : Maps) (w : WorldState) → runs callback.Init one_line a maps w ≡ answers (create_answer w 0) maps (after_create_dsq w 0)
 unfolding run_of
 run_init a maps w = refl
 
@@ -37,23 +26,24 @@ run_init a maps w = refl
 pub line_created : EachCreates one_line
 line_created p e a maps w = called callback.Init one_line p a maps w e ∙ run_init a maps w
 
-run_short : (t flags : ℕ) (maps : Maps) (w : WorldState)
-    → runs callback.Enqueue (line_with 2000000) (task_and_number t flags) maps w ≡ record { answer = Some 0; maps = maps; outside = after_insert w (Some t) (to_line 2000000 w flags) flags }
-unfolding run_of
-run_short t flags maps w = refl
+-- enqueue comes to that with a slice
+abbrev RunsInLine : ℕ → Type 0
+RunsInLine slice =
+    (t flags : ℕ) (maps : Maps) (w : WorldState)
+    → runs callback.Enqueue (line_with slice) (task_and_number t flags) maps w ≡ answers 0 maps (after_insert w (Some t) (to_line slice w flags) flags)
 
--- enqueue of `short_slices`
+lined_up : (slice : ℕ) → RunsInLine slice → EachLinesUp (line_with slice) slice
+lined_up slice run p e t flags maps w = called callback.Enqueue (line_with slice) p (task_and_number t flags) maps w e ∙ run t flags maps w
+
+-- that of `short_slices`
 pub short_lined : EachLinesUp (line_with 2000000) 2000000
-short_lined p e t flags maps w = called callback.Enqueue (line_with 2000000) p (task_and_number t flags) maps w e ∙ run_short t flags maps w
-
-run_long : (t flags : ℕ) (maps : Maps) (w : WorldState)
-    → runs callback.Enqueue (line_with 20000000) (task_and_number t flags) maps w ≡ record { answer = Some 0; maps = maps; outside = after_insert w (Some t) (to_line 20000000 w flags) flags }
 unfolding run_of
-run_long t flags maps w = refl
+short_lined = lined_up 2000000 (λ t flags maps w. refl)
 
--- enqueue of `fifo`
+-- that of `fifo`
 pub long_lined : EachLinesUp (line_with 20000000) 20000000
-long_lined p e t flags maps w = called callback.Enqueue (line_with 20000000) p (task_and_number t flags) maps w e ∙ run_long t flags maps w
+unfolding run_of
+long_lined = lined_up 20000000 (λ t flags maps w. refl)
 
 -- ---- select_cpu
 
@@ -70,19 +60,15 @@ run_choice : (t c : ℕ) (maps : Maps) (w : WorldState)
 unfolding run_of
 run_choice t c maps w = refl
 
--- what is left with that answer
-abbrev left_with : ℕ → Maps → WorldState → Ending WorldState
-left_with d maps w = record { answer = Some d; maps = maps; outside = w }
-
 -- a processor that isn't idle gets no task
-from_busy : (t c d : ℕ) (maps : Maps) (w : WorldState) → from_answer t c d 0 maps w ≡ left_with d maps w
+from_busy : (t c d : ℕ) (maps : Maps) (w : WorldState) → from_answer t c d 0 maps w ≡ answers d maps w
 from_busy t c d maps w = refl
 
 -- one that is does, and one that isn't there too, with a fault
-from_idle : (t c d : ℕ) (maps : Maps) (w : WorldState) → from_answer t c d 1 maps w ≡ left_with d maps (after_insert w (Some t) (to_idle 20000000 w) 0)
+from_idle : (t c d : ℕ) (maps : Maps) (w : WorldState) → from_answer t c d 1 maps w ≡ answers d maps (after_insert w (Some t) (to_idle 20000000 w) 0)
 from_idle t c d maps w = refl
 
-from_fault : (t c d : ℕ) (maps : Maps) (w : WorldState) → from_answer t c d invalid maps w ≡ left_with d maps (after_insert w (Some t) (to_idle 20000000 w) 0)
+from_fault : (t c d : ℕ) (maps : Maps) (w : WorldState) → from_answer t c d invalid maps w ≡ answers d maps (after_insert w (Some t) (to_idle 20000000 w) 0)
 from_fault t c d maps w = refl
 
 -- select_cpu of `simple`
@@ -98,7 +84,7 @@ idle_chosen p e t c maps w = called callback.SelectCpu (to_idle_with 20000000) p
     u : WorldState
     u = after_idle v d
 
-    go : (o : Option Fault) (b : Bool) → from_answer t c d (unless_fault o (one_if b)) maps u ≡ left_with d maps (if unless_fault o (one_if b) == 0 then u else after_insert u (Some t) (to_idle 20000000 u) 0)
+    go : (o : Option Fault) (b : Bool) → from_answer t c d (unless_fault o (one_if b)) maps u ≡ answers d maps (if unless_fault o (one_if b) == 0 then u else after_insert u (Some t) (to_idle 20000000 u) 0)
     go None true = from_idle t c d maps u
     go None false = from_busy t c d maps u
     go (Some f) b = from_fault t c d maps u

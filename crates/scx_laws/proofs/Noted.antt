@@ -1,7 +1,7 @@
 -- A note tells one thing of a task; a small step of a world changes that, or leaves it.
 use Rattle.std.proofs.Common.{◌≡◌, ℕ, ◌<◌, ◌≤◌, Bool, true, false, ◌==◌, ◌||◌, not, ◌⊎◌, inl, inr, if◌then◌else◌, List, [], ◌∷◌, ◌++◌, length, set, get_or, position, Option, Some, None, is_some, is_none, option_map, refl, sym, ap, ◌∙◌, subst, arith}
 use Rattle.std.specs.List.{position_or_len}
-use Rattle.std.proofs.lemmas.Bool.{cases_eq, cases_lt, eq-eqb, ne_eqb}
+use Rattle.std.proofs.lemmas.Bool.{cases_eq, cases_lt, eq-eqb, ne_eqb, or_right}
 use Rattle.std.proofs.lemmas.List.{length-set, get_or-set_same, get_or-set_other, get_or_past, get_or_default}
 use Rattle.std.proofs.lemmas.List.Folds.{position_or_len-set}
 use Rattle.std.proofs.lemmas.List.Sums.{sum_by-set}
@@ -17,7 +17,7 @@ use Rattle.scx_sched_world.specs.declared.notes.Note.{Note}
 use Rattle.scx_sched_world.specs.declared.notes.What.TheVariants as note
 use Rattle.scx_sched_world.specs.Ids.{parked_queue}
 use Rattle.scx_sched_world.specs.World.{WorldState, with_task, task_at, waits_in, waits, is_this, or_this, cpu_of, is_runnable, note_now}
-use Rattle.scx_sched_world.specs.Tasks.{with_home, with_slice}
+use Rattle.scx_sched_world.specs.Tasks.{with_home, with_slice, after_leave}
 use Rattle.scx_sched.specs.Once.{runs, IsSound}
 use Rattle.scx_sched.proofs.Entering.{one_le, nowhere}
 use Rattle.scx_sched.proofs.Marks.{KeepsMarks, Anywhere}
@@ -52,11 +52,6 @@ one_note n t u x y named here others = go (cases_eq u t)
     go (inr d) = told_another n u x (ap (λ o. is_this u o) named ∙ ne_eqb u t d) ∙ others d
 
 -- ---- CPUs
-
--- an option that is none
-pub is_nobody : (o : Option ℕ) → is_none o ≡ true → o ≡ None
-is_nobody None e = refl
-is_nobody (Some t) e = absurd (cc)
 
 -- a task that runs on no CPU doesn't run on this one
 pub runs_nowhere : (cpus : List (Option ℕ)) (t c : ℕ) → runs cpus t ≡ 0 → is_this t (get_or cpus c None) ≡ false
@@ -146,12 +141,12 @@ sleeps on n v t h rests = same_told (tell v t) asleep rests (no_cpu v.cpus t off
 -- ---- a task that goes from queue to queue
 
 -- the first of two that is there
-pub or_some : (o p : Option ℕ) → is_some o ≡ true → or_this o p ≡ o
+or_some : (o p : Option ℕ) → is_some o ≡ true → or_this o p ≡ o
 or_some None p e = absurd (cc)
 or_some (Some k) p e = refl
 
 -- who waits has its wait
-pub has_wait : (hand : Option ℕ) (on : List (Option ℕ)) (n : ℕ) (w : WorldState) (t : ℕ) → waits w t ≡ true → IsSound hand on n w → is_some (task_at w t).since ≡ true
+has_wait : (hand : Option ℕ) (on : List (Option ℕ)) (n : ℕ) (w : WorldState) (t : ℕ) → waits w t ≡ true → IsSound hand on n w → is_some (task_at w t).since ≡ true
 has_wait hand on n w t here h = h.waiting t ∙ ap (λ b. b || is_this t hand) here
 
 -- a note that tells of a waiting task another queue alone
@@ -196,11 +191,17 @@ pub record IsReady (u t : ℕ) (w : WorldState) (x : Told) : Type 0 where
 
 -- what is so is told of it
 pub ready_tell : (on : List (Option ℕ)) (n : ℕ) (w : WorldState) (u t : ℕ) → IsSound (Some t) on n w → IsReady u t w (tell w u)
-ready_tell on n w u t h = record { runnable = refl; cpu = refl; queue = λ d. refl; since = λ d. refl; waits = λ e. or_some (task_at w u).since (Some w.clock) (h.waiting u ∙ (ap (λ b. waits w u || b) (eq-eqb u t e) ∙ or_true (waits w u))) }
-  where
-    or_true : (b : Bool) → (b || true) ≡ true
-    or_true true = refl
-    or_true false = refl
+ready_tell on n w u t h = record { runnable = refl; cpu = refl; queue = λ d. refl; since = λ d. refl; waits = λ e. or_some (task_at w u).since (Some w.clock) (h.waiting u ∙ (ap (λ b. waits w u || b) (eq-eqb u t e) ∙ or_right (waits w u) true refl)) }
+
+-- so it is of a task that has left its queue, of which nothing is noted
+pub ready_left : (on : List (Option ℕ)) (n : ℕ) (w : WorldState) (u t : ℕ) → waits w t ≡ true → IsSound None on n w → IsReady u t (after_leave w t) (tell w u)
+ready_left on n w u t here h = record {
+  runnable = refl;
+  cpu = refl;
+  queue = λ d. ap (λ (o : Option Entry). option_map (λ p. p.queue) o) (sym (removed_other w.queues t u d));
+  since = λ d. refl;
+  waits = λ e. or_some (task_at w u).since (Some w.clock) (subst (λ k. is_some (task_at w k).since ≡ true) (sym e) (has_wait None on n w t here h));
+}
 
 -- the queue to which it was pushed, once it is in some place
 landed : (on : List (Option ℕ)) (n : ℕ) (w v : WorldState) (t q : ℕ) (r : Rank) → t < n → v.queues ≡ after_push w.queues q t r → v.cpus ≡ w.cpus → v.tree.active ≡ w.tree.active → IsSound (Some t) on n w → IsSound None on n v → queue_of v.queues t ≡ Some q

@@ -1,5 +1,6 @@
 -- The notes of a CPU that looks for a task tell the state of each task afterwards.
 use Rattle.std.proofs.Common.{◌≡◌, ℕ, ◌+◌, ◌<◌, Bool, true, false, ◌==◌, ◌&&◌, not, if◌then◌else◌, List, [], ◌∷◌, ◌++◌, length, set, get_or, position, Option, Some, None, is_some, option_map, refl, sym, ap, ◌∙◌, subst, arith}
+use Rattle.scx_laws.proofs.BindingTasks.{nobody_is}
 use Rattle.std.proofs.lemmas.Bool.{eq-eqb, ne_eqb, and_parts}
 use Rattle.std.proofs.lemmas.List.{length-set, get_or-set_same, get_or-set_other}
 use Rattle.scx_dsq.specs.declared.entries.Entry.{Entry}
@@ -14,11 +15,12 @@ use Rattle.scx_sched_world.specs.Ids.{local_on}
 use Rattle.scx_sched_world.specs.World.{WorldState, task_at, is_this, is_runnable, out_of_cycle, running, note_now}
 use Rattle.scx_sched_world.specs.Tasks.{with_since, on_cpu, to_front, after_stop, started_at, after_run, after_switch, after_keep, with_new_slice}
 use Rattle.scx_sched_world.proofs.Fronts.{front_in}
-use Rattle.scx_sched_machine.specs.Steps.{State, Stepped, stays, with_world, one_after_other, is_ejected, is_by_linux, kicked}
+use Rattle.scx_sched_world.specs.Ejecting.{after_catch_up, after_charge}
+use Rattle.scx_sched_machine.specs.Steps.{State, Stepped, stays, with_world, after, one_after_other, is_ejected, is_by_linux, kicked}
 use Rattle.scx_sched_machine.specs.Callbacks.{call_by_linux, two_numbers}
 use Rattle.scx_sched_machine.specs.Put.{enters, put}
 use Rattle.scx_sched_machine.specs.Parking.{supply}
-use Rattle.scx_sched_machine.specs.Cycle.{has_local, keeps_slice, asks_again, tries, after_stopping, after_running, put_back, leave, switched, started_if, start as run_front, hears_idle, tells_idle, idle_note, rest_notes, kept, rest, swap, swap_or_rest, builtin_fill, builtin_ask, builtin_cycle, start_or_cycle, picked, refilled, is_local, start_picked, start_picked_or_cycle, tells_busy, makes_way, pick, pick_or_rest, keep_or_pick, conclude, give_up, ask, seek, look, cycling, ends, falls_idle, notes_idle, idle_or_anew, becomes_idle, concluded, cycle}
+use Rattle.scx_sched_machine.specs.Cycle.{has_local, keeps_slice, asks_again, tries, put_back, leave, switched, started_if, start as run_front, hears_idle, tells_idle, idle_note, rest_notes, kept, rest, swap, swap_or_rest, builtin_fill, builtin_ask, builtin_cycle, start_or_cycle, picked, refilled, is_local, start_picked, start_picked_or_cycle, tells_busy, makes_way, pick, pick_or_rest, keep_or_pick, conclude, give_up, ask, seek, look, cycling, ends, falls_idle, notes_idle, idle_or_anew, becomes_idle, concluded, cycle}
 use Rattle.scx_sched_machine.proofs.Choices.{keeps_if}
 use Rattle.scx_sched.specs.Kept.{InFront}
 use Rattle.scx_sched.specs.Once.{runs, IsSound}
@@ -28,9 +30,10 @@ use Rattle.scx_sched.proofs.Skeleton.{IsKnown, keeps_kicked, keeps_switched}
 use Rattle.scx_sched.proofs.Sound.{left_place, popped_other, removed_place, in_known, place_known, sound_stopped, sound_started, sound_ran, sound_kept, sound_cycling, sound_ended}
 use Rattle.scx_sched.proofs.Waiting.{removed_other, renewed_since}
 use Rattle.scx_laws.specs.Telling.{Told, tell, since_stop, told_of, told}
-use Rattle.scx_laws.proofs.Noted.{is_nobody, same_told, one_note, no_cpu, cpu_set_here, cpu_set_other, tell_task}
+use Rattle.scx_laws.proofs.Walking.{IsSwitch, by_stop, by_start}
+use Rattle.scx_laws.proofs.Noted.{same_told, one_note, no_cpu, cpu_set_here, cpu_set_other, tell_task}
 use Rattle.scx_laws.proofs.NotedCalls.{IsTold, TellsOf, told_nothing, told_both}
-use Rattle.scx_laws.proofs.NotedPuts.{sound_steps, Goes, Puts, told_plainly, puts_told, goes_stays, goes_call_by_linux, goes_stopping, goes_running, puts_enters, puts_put}
+use Rattle.scx_laws.proofs.NotedPuts.{sound_steps, Goes, Puts, told_plainly, puts_told, goes_stays, goes_call_by_linux, goes_stops, goes_runs, puts_enters, puts_put}
 use Rattle.scx_laws.proofs.NotedDispatch.{goes_supply, goes_builtin_fill, goes_tries}
 
 -- a task that leaves its CPU was runnable, and runs nowhere
@@ -120,13 +123,16 @@ module _ (u n : ℕ) where
   sound_switched : (on : List (Option ℕ)) (s : State) (t : ℕ) → IsSound None on n s.world → IsSound None on n (switched s t).world
   sound_switched on s t h = keeps_switched n (λ m hand on w. IsSound hand on n w) (sound_steps n) 0 None on s t h
 
+  -- a task begins to run, which is noted, and then the policy hears it
+  abbrev run_with : State → ℕ → ℕ → Stepped → Stepped
+  run_with s c t r = after (note_now s.world (note.Run t c) ∷ []) r
+
   -- once a task was started
-  goes_begun : (on : List (Option ℕ)) (s v : State) (c t : ℕ) → c < length on → told (note_now s.world (note.Run t c) ∷ []) u (tell s.world u) ≡ tell v.world u → IsSound None on n v.world
-      → let r = after_running (switched v t) c t in IsSound None on n r.state.world × IsTold u None s.world r.state.world (note_now s.world (note.Run t c) ∷ r.notes)
-  goes_begun on s v c t l first h =
-      let r = after_running (switched v t) c t in
-      let x = goes_running u n None on (switched v t) c t l (sound_switched on v t h) in
-      (x.0, notes_first s v (note_now s.world (note.Run t c)) r.notes r.state.world first (ap (λ y. told r.notes u y) (sym (same_switched v t)) ∙ x.1.tells))
+  begins : (on : List (Option ℕ)) (s v : State) (c t : ℕ) → c < length on → told (note_now s.world (note.Run t c) ∷ []) u (tell s.world u) ≡ tell v.world u → IsSound None (set on c (Some t)) n v.world → (r : Stepped) → IsSwitch (switched v t) t c (after_catch_up (switched v t).world t) r → Some-on c s (run_with s c t r)
+  begins on s v c t l first h r is =
+      let l' : c < length (set on c (Some t)) = rw (length-set on c (Some t)) l in
+      let x = goes_runs u n None (set on c (Some t)) (switched v t) t c l' (sound_switched (set on c (Some t)) v t h) r is in
+      (set on c (Some t), l', (x.0, notes_first s v (note_now s.world (note.Run t c)) r.notes r.state.world first (ap (λ y. told r.notes u y) (sym (same_switched v t)) ∙ x.1.tells)))
 
   goes_start : (on : List (Option ℕ)) (s : State) (c : ℕ) → c < length on → get_or on c None ≡ None → IsSound None on n s.world → Some-on c s (run_front s c)
   unfolding run_front
@@ -137,10 +143,9 @@ module _ (u n : ℕ) where
       go (Some t) e =
           let w = s.world in
           let v = with_world s (started_at (Some t) w c) in
-          let l' : c < length (set on c (Some t)) = rw (length-set on c (Some t)) l in
           let there = place_known w.queues (local_on c) t (front_in w.queues (local_on c) t e) in
           let first = starts on w v.world c t (on_cpu (task_at w t) c) l free (subst (λ j. t < j) h.even there.0) there.1 refl refl refl refl (left_place w.queues (local_on c) t e) (λ k d. popped_other w.queues (local_on c) t k e d) h in
-          (set on c (Some t), l', goes_begun (set on c (Some t)) s v c t l' first (sound_started on n w c t l free e h))
+          by_start (λ (r : Stepped). Some-on c s (run_with s c t r)) (switched v t) c t (begins on s v c t l first (sound_started on n w c t l free e h))
 
   -- a task that was picked runs, from wherever it waits in the local queue
   goes_start_picked : (on : List (Option ℕ)) (s : State) (c t : ℕ) → c < length on → get_or on c None ≡ None → is_local s c t ≡ true → IsSound None on n s.world → Some-on c s (start_picked s c t)
@@ -148,10 +153,9 @@ module _ (u n : ℕ) where
   goes_start_picked on s c t l free here h =
       let w = s.world in
       let v = with_world s (after_run w c t) in
-      let l' : c < length (set on c (Some t)) = rw (length-set on c (Some t)) l in
       let there = in_known w.queues (local_on c) t here in
       let first = starts on w v.world c t (on_cpu (task_at w t) c) l free (subst (λ j. t < j) h.even there.0) there.1 refl refl refl refl (removed_place w.queues t there.1 there.0) (λ k d. removed_other w.queues t k d) h in
-      (set on c (Some t), l', goes_begun (set on c (Some t)) s v c t l' first (sound_ran on n w c t l free here h))
+      by_start (λ (r : Stepped). Some-on c s (run_with s c t r)) (switched v t) c t (begins on s v c t l first (sound_ran on n w c t l free here h))
 
   -- a task that was stopped is put, or goes to the front
   puts_back : (on : List (Option ℕ)) (s : State) (c t : ℕ) → t < n → c < length on → IsSound (Some t) on n s.world → Puts u n on t s (put_back s c t)
@@ -166,7 +170,7 @@ module _ (u n : ℕ) where
   goes_leave : (on : List (Option ℕ)) (s : State) (c : ℕ) (p : Option ℕ) → c < length on → IsKnown n p → get_or on c None ≡ p → IsSound None on n s.world → Left c s (leave s c p)
   unfolding leave
   goes_leave on s c None l known runs-on h = (on, l, runs-on, goes_stays u n None on s h)
-  goes_leave on s c (Some t) l known runs-on h = (now, l', get_or-set_same {A = Option ℕ} on c None None l, (back.0, notes_first s off (note_now s.world (note.Stop t c)) (r.notes ++ b.notes) b.state.world (stops on s.world c t l known runs-on h) (told_both u None off.world r.state.world b.state.world r.notes b.notes (told_plainly u n off.world r.state.world r.notes x.1.tells) (puts_told u n now t r.state b x.0 back)).tells))
+  goes_leave on s c (Some t) l known runs-on h = by_stop (λ (r : Stepped). Left c s (after (note_now s.world (note.Stop t c) ∷ []) (one_after_other r (put_back r.state c t)))) off c t 1 left
     where
       now : List (Option ℕ)
       now = set on c None
@@ -177,17 +181,12 @@ module _ (u n : ℕ) where
       off : State
       off = with_world s (after_stop s.world c t)
 
-      r : Stepped
-      r = after_stopping off c t 1
-
-      x : Goes u n (Some t) now off r
-      x = goes_stopping u n (Some t) now off c t 1 l' (sound_stopped on n s.world c t l known runs-on h)
-
-      b : Stepped
-      b = put_back r.state c t
-
-      back : Puts u n now t r.state b
-      back = puts_back now r.state c t known l' x.0
+      left : (r : Stepped) → IsSwitch off t c (after_charge off.world t) r → Left c s (after (note_now s.world (note.Stop t c) ∷ []) (one_after_other r (put_back r.state c t)))
+      left r is =
+          let x = goes_stops u n (Some t) now off t c l' (sound_stopped on n s.world c t l known runs-on h) r is in
+          let b = put_back r.state c t in
+          let back = puts_back now r.state c t known l' x.0 in
+          (now, l', get_or-set_same {A = Option ℕ} on c None None l, (back.0, notes_first s off (note_now s.world (note.Stop t c)) (r.notes ++ b.notes) b.state.world (stops on s.world c t l known runs-on h) (told_both u None off.world r.state.world b.state.world r.notes b.notes (told_plainly u n off.world r.state.world r.notes x.1.tells) (puts_told u n now t r.state b x.0 back)).tells))
 
   -- ---- no task comes
 
@@ -237,7 +236,7 @@ module _ (u n : ℕ) where
 
   goes_tells_busy : (on : List (Option ℕ)) (s : State) (c : ℕ) (p : Option ℕ) (ran : Bool) → c < length on → IsSound None on n s.world → Goes-to s (tells_busy s c p ran) on
   unfolding tells_busy tells_idle
-  goes_tells_busy on s c None false l h = goes_call_by_linux u n None on s callback.UpdateIdle (two_numbers c 0) 0 c l h
+  goes_tells_busy on s c None false l h = goes_call_by_linux u n None on s _ _ 0 c l h
   goes_tells_busy on s c None true l h = goes_stays u n None on s h
   goes_tells_busy on s c (Some t) ran l h = goes_stays u n None on s h
 
@@ -336,7 +335,7 @@ module _ (u n : ℕ) where
   -- no task runs on a CPU that falls idle
   nobody_runs : (s : State) (c : ℕ) (ran : Bool) → falls_idle s c ran ≡ true → running s.world c ≡ None
   unfolding falls_idle
-  nobody_runs s c ran e = is_nobody (running s.world c) (and_parts (hears_idle s) _ (and_parts ran _ e).1).1
+  nobody_runs s c ran e = nobody_is (running s.world c) (and_parts (hears_idle s) _ (and_parts ran _ e).1).1
 
   goes_concluded : (on : List (Option ℕ)) (s : State) (c : ℕ) (ran : Bool) → c < length on → IsSound None on n s.world → (on : List (Option ℕ)) × Goes-to s (concluded s c ran) on
   unfolding concluded

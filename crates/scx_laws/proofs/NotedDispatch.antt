@@ -1,7 +1,6 @@
 -- Tasks are parked, local queues are filled and dispatch is asked: the notes tell the state of each task afterwards.
-use Rattle.std.proofs.Common.{◌≡◌, ℕ, zero, suc, ◌<◌, Bool, true, false, ◌==◌, not, nat_lt, if◌then◌else◌, List, [], ◌∷◌, length, Option, Some, None, is_some, option_map, refl, sym, ap, ◌∙◌, subst, arith}
-use Rattle.std.proofs.lemmas.Bool.{ne_eqb}
-use Rattle.scx_dsq.specs.declared.entries.Entry.{Entry}
+use Rattle.std.proofs.Common.{◌≡◌, ℕ, zero, suc, ◌<◌, Bool, true, false, ◌==◌, not, nat_lt, if◌then◌else◌, List, [], ◌∷◌, length, Option, Some, None, refl, ap, ◌∙◌, subst}
+use Rattle.scx_laws.proofs.Parked.{local_apart}
 use Rattle.scx_dsq.specs.declared.entries.Rank.TheVariants.{Fifo}
 use Rattle.scx_dsq.specs.Queues.{queue_of, len_of}
 use Rattle.scx_dsq.specs.Calls.{after_push, after_remove}
@@ -9,10 +8,10 @@ use Rattle.scx_isa_semantics.specs.declared.callbacks.Callback.TheVariants as ca
 use Rattle.scx_sched_world.specs.declared.notes.Note.{Note}
 use Rattle.scx_sched_world.specs.declared.notes.What.TheVariants as note
 use Rattle.scx_sched_world.specs.Ids.{global, builtin_queue, parked_queue, local_on}
-use Rattle.scx_sched_world.specs.World.{WorldState, task_at, waits_in, waits, note_now}
+use Rattle.scx_sched_world.specs.World.{WorldState, waits_in, waits, note_now}
 use Rattle.scx_sched_world.specs.Tasks.{local_len, after_leave, fill_front, brought, next_for}
 use Rattle.scx_sched_machine.specs.Steps.{State, Stepped, stays, with_world, one_after_other, is_ejected}
-use Rattle.scx_sched_machine.specs.Callbacks.{call_back, task_and_number, cpu_and_task, noted_by}
+use Rattle.scx_sched_machine.specs.Callbacks.{call_back, cpu_and_task, noted_by}
 use Rattle.scx_sched_machine.specs.Custody.{tells_dequeued, leaver, tells_of, tells_each, moved_as, hears_dequeue, tells_left}
 use Rattle.scx_sched_machine.specs.Filling.{move_note, fill}
 use Rattle.scx_sched_machine.specs.Parking.{throttled_front, throttled_next, park_next, clear, in_reach, supply}
@@ -26,17 +25,13 @@ use Rattle.scx_sched.proofs.Pushes.{takes_queued}
 use Rattle.scx_sched.proofs.Seen.{next_seen}
 use Rattle.scx_sched.proofs.Sound.{place_known, sound_filled, sound_moves}
 use Rattle.scx_sched.proofs.Supplying.{park_left, park_next_from, clear_from, IsThrottledIn, throttled_is, throttled_next_is}
-use Rattle.scx_sched.proofs.Waiting.{removed_other}
 use Rattle.scx_laws.specs.Telling.{tell, told}
-use Rattle.scx_laws.proofs.Noted.{IsAs, as_marks, or_some, has_wait, moves_on}
+use Rattle.scx_laws.proofs.Noted.{IsAs, as_marks, moves_on, ready_left}
 use Rattle.scx_laws.proofs.NotedPuts.{Goes, told_plainly, goes_stays, goes_joined, goes_call_back, goes_call_by_linux, puts_park}
 
 -- a task of another queue than that of the parked waits
 waits_there : (w : WorldState) (q t : ℕ) → (q == parked_queue) ≡ false → queue_of w.queues t ≡ Some q → waits w t ≡ true
 waits_there w q t apart there = ap (λ o. waits_in o) there ∙ ap (λ b. not b) apart
-
-local_apart : (c : ℕ) → (local_on c == parked_queue) ≡ false
-local_apart c = ne_eqb (local_on c) parked_queue (λ e. omega (arith, e))
 
 module _ (u n : ℕ) (on : List (Option ℕ)) where
   -- a step at whose ends no task is at hand
@@ -66,13 +61,7 @@ module _ (u n : ℕ) (on : List (Option ℕ)) where
       let w = s.world in
       let p = puts_park u n on t (with_world s (after_leave w t)) (subst (λ k. t < k) h.even (place_known w.queues q t x.there).0) (sound_leaves on n w q t x.there apart h) in (
         p.0,
-        told_plainly u n w (park_left s t).state.world (park_left s t).notes (p.1 (tell w u) (record {
-          runnable = refl;
-          cpu = refl;
-          queue = λ d. ap (λ (o : Option Entry). option_map (λ p. p.queue) o) (sym (removed_other w.queues t u d));
-          since = λ d. refl;
-          waits = λ e. or_some (task_at w u).since (Some w.clock) (subst (λ k. is_some (task_at w k).since ≡ true) (sym e) (has_wait None on n w t (waits_there w q t apart x.there) h));
-        })),
+        told_plainly u n w (park_left s t).state.world (park_left s t).notes (p.1 (tell w u) (ready_left on n w u t (waits_there w q t apart x.there) h)),
       )
 
   goes_park_next : (j : ℕ) (s : State) (q c : ℕ) → (q == parked_queue) ≡ false → IsSound None on n s.world → Steps s (park_next j s q c)
@@ -115,7 +104,7 @@ module _ (u n : ℕ) (on : List (Option ℕ)) where
   goes_tells_of : (o : Option ℕ) (s : State) (c : ℕ) → c < length on → IsSound None on n s.world → Steps s (tells_of o s c)
   unfolding tells_dequeued
   goes_tells_of None s c l h = goes_stays u n None on s h
-  goes_tells_of (Some t) s c l h = goes_call_by_linux u n None on s callback.Dequeue (task_and_number t 0) t c l h
+  goes_tells_of (Some t) s c l h = goes_call_by_linux u n None on s _ _ t c l h
 
   goes_tells_each : (ns : List Note) (s : State) (c : ℕ) → c < length on → IsSound None on n s.world → Steps s (tells_each ns s c)
   goes_tells_each [] s c l h = goes_stays u n None on s h

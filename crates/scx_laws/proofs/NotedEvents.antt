@@ -4,7 +4,7 @@ use Rattle.std.proofs.Common.{◌≡◌, ℕ, zero, suc, ◌<◌, Bool, true, fa
 use Rattle.std.proofs.lemmas.List.{get_or-set_same, get_or-set_other}
 use Rattle.std.proofs.lemmas.List.Quantifiers.{position-Some}
 use Rattle.scx_dsq.specs.declared.entries.Entry.{Entry}
-use Rattle.scx_dsq.specs.Queues.{queue_of, front_of, len_of, behind_of}
+use Rattle.scx_dsq.specs.Queues.{queue_of, front_of, behind_of}
 use Rattle.scx_isa_semantics.specs.declared.callbacks.Callback.{Callback}
 use Rattle.scx_isa_semantics.specs.declared.callbacks.Callback.TheVariants as callback
 use Rattle.scx_vm.specs.declared.arguments.Args.{Args}
@@ -15,7 +15,7 @@ use Rattle.scx_sched_tasks.specs.Tasks.{no_task}
 use Rattle.scx_sched_world.specs.declared.notes.What.TheVariants as note
 use Rattle.scx_sched_world.specs.declared.timers.Alarm.{Alarm}
 use Rattle.scx_sched_world.specs.Ids.{parked_queue}
-use Rattle.scx_sched_world.specs.World.{WorldState, with_tree, with_waker, task_at, is_this, or_this, is_idle, is_throttled, waits_in, waits, cpu_of, note_now}
+use Rattle.scx_sched_world.specs.World.{WorldState, with_tree, with_waker, task_at, is_this, or_this, is_idle, waits_in, waits, cpu_of, note_now}
 use Rattle.scx_sched_world.specs.Helpers.{alarm_at, due_now, with_timer, after_fire}
 use Rattle.scx_sched_world.specs.Tasks.{with_since, after_leave, let_go, later, begun_periods, after_reweigh, after_own_weight}
 use Rattle.scx_sched_world.proofs.Fronts.{behind_in, AtParked, at_front, at_behind}
@@ -25,7 +25,7 @@ use Rattle.scx_sched_machine.specs.Steps.{State, Stepped, stays, with_world, one
 use Rattle.scx_sched_machine.specs.Callbacks.{call_by_linux, task_and_number, one_number}
 use Rattle.scx_sched_machine.specs.Custody.{is_in_custody, tells_dequeued, tells_dequeued_if}
 use Rattle.scx_sched_machine.specs.Put.{put}
-use Rattle.scx_sched_machine.specs.Parking.{let_go_one, let_go_from, let_all_go}
+use Rattle.scx_sched_machine.specs.Parking.{let_go_one, let_all_go}
 use Rattle.scx_sched_machine.specs.Firing.{due, fired, fires, fire, fire_below, fire_all}
 use Rattle.scx_sched_machine.specs.Events.{refusal, woken, leaves_queue, overdue, eject_if_stalled, watch, timers_and_watchdog, clock, restore_flag, change_flags, takes_weight, changes_weight, reweigh_running, reweigh_waiting, reweigh_off_cpu, reweigh_at, reweigh_by_linux, reweigh, own_step, event_step}
 use Rattle.scx_sched_machine.proofs.Choices.{keeps_if}
@@ -38,7 +38,8 @@ use Rattle.scx_sched.proofs.Sound.{place_known, sound_later, sound_timed, sound_
 use Rattle.scx_sched.proofs.Staying.{stay_put}
 use Rattle.scx_sched.proofs.Waiting.{removed_other}
 use Rattle.scx_laws.specs.Telling.{tell, told}
-use Rattle.scx_laws.proofs.Noted.{told_append, or_some, has_wait, IsReady}
+use Rattle.scx_laws.proofs.Walking.{IsOneLetGo, parked_let_go}
+use Rattle.scx_laws.proofs.Noted.{told_append, IsReady, ready_left}
 use Rattle.scx_laws.proofs.NotedCalls.{told_nothing, told_eject}
 use Rattle.scx_laws.proofs.NotedPuts.{sound_steps, Goes, Puts, told_plainly, goes_stays, goes_joined, goes_call_by_linux, goes_tells_dequeued, ready_on, puts_put}
 use Rattle.scx_laws.proofs.NotedCycles.{Goes-to, goes_from}
@@ -101,16 +102,13 @@ module _ (u n : ℕ) where
     at_next s t here h None e = tt
     at_next s t here h (Some k) e = let b = behind_in s.world.queues parked_queue t k here e in one_leaves s t k here b.there b.other h
 
-    goes_let_go_from : (j : ℕ) (s : State) (at : Option ℕ) → AtParked s.world.queues at → IsSound None on n s.world → Goes-to u n s (let_go_from j s at) on
-    unfolding let_go_from
-    goes_let_go_from zero s at here h = goes_stays u n None on s h
-    goes_let_go_from (suc j) s None here h = goes_stays u n None on s h
-    goes_let_go_from (suc j) s (Some t) here h =
-        let next = behind_of s.world.queues t in
-        let r = let_go_one s t in
-        let x = goes_let_go_one s t here h in
-        keeps_if (λ (k : Stepped). Goes-to u n s k on) (is_throttled s.world t) (let_go_from j s next) (one_after_other r (let_go_from j r.state next)) (goes_let_go_from j s next (at_behind s.world.queues t next here refl) h)
-        (goes_joined u n None on s r (let_go_from j r.state next) x (goes_let_go_from j r.state next (at_next s t here h next refl) x.0))
+    one_let_go : IsOneLetGo (λ s. IsSound None on n s.world) (λ s o. AtParked s.world.queues o) (λ s r. Goes-to u n s r on)
+    one_let_go = record {
+      none = λ s h. goes_stays u n None on s h;
+      joined = λ s a r x y. goes_joined u n None on s a r x y;
+      passed = λ s t here. at_behind s.world.queues t (behind_of s.world.queues t) here refl;
+      one = λ s t here h. let x = goes_let_go_one s t here h in (x, x.0, at_next s t here h (behind_of s.world.queues t) refl);
+    }
 
     -- ---- timers, and the watchdog
 
@@ -144,11 +142,11 @@ module _ (u n : ℕ) where
     goes_stalled (Some t) s h = (keeps_eject n (λ m hand on w. IsSound hand on n w) (sound_steps n) 0 None on s _ h, told_eject u None on n s _ h)
 
     goes_clock : (s : State) → IsSound None on n s.world → Goes-to u n s (clock s) on
-    unfolding clock timers_and_watchdog watch let_all_go fire_all
+    unfolding clock timers_and_watchdog watch fire_all
     goes_clock s h =
         let v = with_world s (begun_periods (later s.world)) in
         let a = let_all_go v in
-        let x = goes_let_go_from (len_of v.world.queues parked_queue) v (front_of v.world.queues parked_queue) (at_front v.world.queues (front_of v.world.queues parked_queue) refl) (sound_begun_periods None on n (later s.world) (sound_later on n s.world h)) in
+        let x = parked_let_go (λ s. IsSound None on n s.world) (λ s o. AtParked s.world.queues o) (λ s r. Goes-to u n s r on) one_let_go v (at_front v.world.queues (front_of v.world.queues parked_queue) refl) (sound_begun_periods None on n (later s.world) (sound_later on n s.world h)) in
         let b = fire_all a.state in
         let y = goes_fire_below (length a.state.world.timers) a.state x.0 in
         let z = goes_stalled (overdue b.state) b.state y.0 in
@@ -238,17 +236,8 @@ module _ (u n : ℕ) where
         p : Puts u n on t b.state r
         p = puts_put u n on t b.state c 0 within l z.0
 
-        first : IsReady u t v.world (tell w u)
-        first = record {
-          runnable = refl;
-          cpu = refl;
-          queue = λ d. ap (λ (o : Option Entry). option_map (λ q. q.queue) o) (sym (removed_other w.queues t u d));
-          since = λ d. refl;
-          waits = λ e. or_some (task_at w u).since (Some w.clock) (subst (λ k. is_some (task_at w k).since ≡ true) (sym e) (has_wait None on n w t here h));
-        }
-
         ready : IsReady u t b.state.world (told b.notes u (told a.notes u (tell w u)))
-        ready = ready_on u n on t a.state b (told a.notes u (tell w u)) (clock_changes a.state t c x) z.1 (ready_on u n on t v a (tell w u) (clock_dequeued (is_in_custody w t) v t c change_flags) y.1 first)
+        ready = ready_on u n on t a.state b (told a.notes u (tell w u)) (clock_changes a.state t c x) z.1 (ready_on u n on t v a (tell w u) (clock_dequeued (is_in_custody w t) v t c change_flags) y.1 (ready_left on n w u t here h))
 
     goes_reweigh_off_cpu : (s : State) (t c x : ℕ) → t < n → c < length on → IsSound None on n s.world → Goes-to u n s (reweigh_off_cpu s t c x) on
     unfolding reweigh_off_cpu

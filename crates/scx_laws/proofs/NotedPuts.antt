@@ -16,12 +16,11 @@ use Rattle.scx_sched_world.specs.Ids.{builtin_queue, parked_queue}
 use Rattle.scx_sched_world.specs.World.{WorldState, with_queues, with_task, task_at, or_this}
 use Rattle.scx_sched_world.specs.Tasks.{with_since, rank_by, task_after_insert, put_parked, after_enter}
 use Rattle.scx_sched_world.specs.Ejecting.{builtin_vtime, put_builtin, after_catch_up, after_charge}
-use Rattle.scx_sched_machine.specs.Steps.{State, Stepped, stays, with_world, one_after_other, is_ejected}
-use Rattle.scx_sched_machine.specs.Callbacks.{call_back, call_by_linux, one_task, task_and_number}
+use Rattle.scx_sched_machine.specs.Steps.{State, Stepped, stays, one_after_other, is_ejected}
+use Rattle.scx_sched_machine.specs.Callbacks.{call_back, call_by_linux, task_and_number}
 use Rattle.scx_sched_machine.specs.Custody.{tells_dequeued, tells_dequeued_if}
 use Rattle.scx_sched_machine.specs.Put.{enters, enqueue_choice, enters_builtin, comes_in, put}
 use Rattle.scx_sched_machine.specs.Parking.{park}
-use Rattle.scx_sched_machine.specs.Cycle.{stopping_called, after_stopping, after_running}
 use Rattle.scx_sched_machine.proofs.Choices.{keeps_if}
 use Rattle.scx_sched.specs.Kept.{IsKeptBySteps, IsWanted}
 use Rattle.scx_sched.specs.Once.{IsSound}
@@ -32,6 +31,7 @@ use Rattle.scx_sched.proofs.Skeleton.{is_wanted, keeps_call_back, keeps_call_by_
 use Rattle.scx_sched.proofs.Sound.{inside, sound_query, sound_begun, sound_quiet, sound_cycling, sound_ended, sound_moves, sound_timed, sound_sets, sound_waker, sound_marks, sound_wants, sound_entered, sound_filled, sound_stopped, sound_started, sound_ran, sound_kept, sound_asleep, sound_put_out, sound_evict, sound_cut, sound_put_builtin, sound_overtaken, sound_charged}
 use Rattle.scx_sched.proofs.Waiting.{since_set, given_since}
 use Rattle.scx_laws.specs.Telling.{Told, tell, told}
+use Rattle.scx_laws.proofs.Walking.{IsSwitch, Silent, Called}
 use Rattle.scx_laws.proofs.Noted.{told_append, same_told, tell_task, IsAs, as_marks, IsReady, ready_tell, comes}
 use Rattle.scx_laws.proofs.NotedCalls.{IsTold, TellsOf, told_nothing, told_joined, put_as, told_call_back, told_call_by_linux}
 
@@ -105,23 +105,21 @@ module _ (u n : ℕ) where
     pub goes_call_by_linux : (s : State) (b : Callback) (a : Args) (t c : ℕ) → c < length on → IsSound hand on n s.world → Goes hand on s (call_by_linux s b a t c)
     goes_call_by_linux s b a t c l h = (keeps_call_by_linux n (λ m hand on w. IsSound hand on n w) (sound_steps n) 0 hand on s b a t c l h, told_call_by_linux u hand on n s b a t c l h)
 
-    -- once a task has left its CPU
-    pub goes_stopping : (s : State) (c t x : ℕ) → c < length on → IsSound hand on n s.world → Goes hand on s (after_stopping s c t x)
-    unfolding after_stopping
-    goes_stopping s c t x l h =
-        keeps_if (Goes hand on s) (is_ejected s) (stays (with_world s (after_charge s.world t))) (stopping_called s c t x) (sound_charged hand on n s.world t h, told_nothing u hand s.world (after_charge s.world t) (tell_task s.world t u _ refl))
-        (goes_call_back s _ (task_and_number t x) t c l h)
+    -- a task has left its CPU, or come to one
+    goes_switch : (s : State) (t c : ℕ) (out : WorldState) → c < length on → IsSound hand on n out → tell out u ≡ tell s.world u → IsSound hand on n s.world → (r : Stepped) → IsSwitch s t c out r → Goes hand on s r
+    goes_switch s t c out l sound same h _ (Silent e) = (sound, told_nothing u hand s.world out same)
+    goes_switch s t c out l sound same h _ (Called b a is) = goes_call_back s b a t c l h
 
-    -- once a task has come to its CPU
-    pub goes_running : (s : State) (c t : ℕ) → c < length on → IsSound hand on n s.world → Goes hand on s (after_running s c t)
-    unfolding after_running
-    goes_running s c t l h =
-        keeps_if (Goes hand on s) (is_ejected s) (stays (with_world s (after_catch_up s.world t))) (call_back s callback.Running (one_task t) t c) (sound_overtaken hand on n s.world t h, told_nothing u hand s.world (after_catch_up s.world t) refl) (goes_call_back s callback.Running (one_task t) t c l h)
+    pub goes_stops : (s : State) (t c : ℕ) → c < length on → IsSound hand on n s.world → (r : Stepped) → IsSwitch s t c (after_charge s.world t) r → Goes hand on s r
+    goes_stops s t c l h r is = goes_switch s t c (after_charge s.world t) l (sound_charged hand on n s.world t h) (tell_task s.world t u _ refl) h r is
+
+    pub goes_runs : (s : State) (t c : ℕ) → c < length on → IsSound hand on n s.world → (r : Stepped) → IsSwitch s t c (after_catch_up s.world t) r → Goes hand on s r
+    goes_runs s t c l h r is = goes_switch s t c (after_catch_up s.world t) l (sound_overtaken hand on n s.world t h) refl h r is
 
     -- the policy hears that a task left its custody, if it did
     pub goes_tells_dequeued : (b : Bool) (s : State) (t c flags : ℕ) → c < length on → IsSound hand on n s.world → Goes hand on s (tells_dequeued_if b s t c flags)
     unfolding tells_dequeued
-    goes_tells_dequeued true s t c flags l h = goes_call_by_linux s callback.Dequeue (task_and_number t flags) t c l h
+    goes_tells_dequeued true s t c flags l h = goes_call_by_linux s _ _ t c l h
     goes_tells_dequeued false s t c flags l h = goes_stays s h
 
   -- ---- the task at hand comes to a queue

@@ -3,18 +3,17 @@ use Rattle.std.proofs.Common.{◌≡◌, ℕ, ◌<◌, ◌≤◌, Bool, true, fa
 use Rattle.std.proofs.lemmas.Bool.{cases_eq, cases_lt, eq-eqb, ne_eqb, lt-ltb}
 use Rattle.std.proofs.lemmas.List.{length-set, get_or-set_same, get_or-set_other, get_or_past, set_past}
 use Rattle.std.proofs.lemmas.List.Quantifiers.{position-Some}
-use Rattle.scx_isa_semantics.specs.declared.callbacks.Callback.TheVariants as callback
 use Rattle.scx_weights.specs.Hierarchy.{with_task as with_active}
 use Rattle.scx_sched_tasks.specs.declared.task.Task.{Task}
 use Rattle.scx_sched_tasks.specs.Tasks.{no_task}
 use Rattle.scx_sched_world.specs.declared.notes.What.TheVariants as note
 use Rattle.scx_sched_world.specs.World as world
-use Rattle.scx_sched_world.specs.World.{WorldState, with_tree, with_task, switch_at, with_switch, with_slept, task_at, is_this, or_this, this_if, is_runnable, is_throttled, running, cpu_of, waits, without_kick, note_now}
+use Rattle.scx_sched_world.specs.World.{WorldState, with_tree, with_task, switch_at, with_switch, with_slept, task_at, is_this, is_runnable, cpu_of, note_now}
 use Rattle.scx_sched_world.specs.Tasks.{with_since, after_sleep, after_leave, after_stop}
-use Rattle.scx_sched_machine.specs.Steps.{State, Stepped, stays, with_world, is_by_linux}
-use Rattle.scx_sched_machine.specs.Callbacks.{call_by_linux, task_and_number}
+use Rattle.scx_sched_world.specs.Ejecting.{after_charge}
+use Rattle.scx_sched_machine.specs.Steps.{State, Stepped, stays, with_world, after, is_by_linux}
 use Rattle.scx_sched_machine.specs.Custody.{is_in_custody, tells_dequeued_if}
-use Rattle.scx_sched_machine.specs.Cycle.{after_stopping, cycle}
+use Rattle.scx_sched_machine.specs.Cycle.{cycle}
 use Rattle.scx_sched_machine.specs.Events.{told_of_sleep, falls_asleep, looks_after_sleep, leaves_cpu, leaves_queue, sleep_from_cpu, sleep_from_queue, sleep_from, sleep}
 use Rattle.scx_sched_machine.proofs.Choices.{keeps_if}
 use Rattle.scx_sched.specs.Once.{IsSound}
@@ -22,9 +21,10 @@ use Rattle.scx_sched.proofs.Events.{is_task, custody_waits}
 use Rattle.scx_sched.proofs.Sound.{sound_sets, sound_stopped, sound_asleep, sound_removed, sound_left}
 use Rattle.scx_sched.proofs.Waiting.{removed_other}
 use Rattle.scx_laws.specs.Telling.{Told, tell, asleep, told_of, told_by, told}
+use Rattle.scx_laws.proofs.Walking.{IsSwitch, by_stop}
 use Rattle.scx_laws.proofs.Noted.{told_append, told_another, same_tell, same_told, sleeps}
 use Rattle.scx_laws.proofs.NotedCalls.{IsTold}
-use Rattle.scx_laws.proofs.NotedPuts.{Goes, told_plainly, goes_call_by_linux, goes_stopping, goes_tells_dequeued}
+use Rattle.scx_laws.proofs.NotedPuts.{Goes, told_plainly, goes_call_by_linux, goes_stops, goes_tells_dequeued}
 use Rattle.scx_laws.proofs.NotedCycles.{stops, goes_cycle}
 use Rattle.scx_laws.proofs.NotedWakes.{Leads}
 
@@ -40,7 +40,7 @@ module _ (u n : ℕ) where
   -- ---- off a CPU
 
   -- a task leaves its CPU, which begins to switch
-  pub off_with : (on : List (Option ℕ)) (w : WorldState) (c t : ℕ) → c < length on → t < n → get_or on c None ≡ Some t → IsSound None on n w → IsSound (Some t) (set on c None) n (after_stop (with_switch w c) c t) × (told (note_now w (note.Stop t c) ∷ []) u (tell w u) ≡ tell (after_stop (with_switch w c) c t) u)
+  off_with : (on : List (Option ℕ)) (w : WorldState) (c t : ℕ) → c < length on → t < n → get_or on c None ≡ Some t → IsSound None on n w → IsSound (Some t) (set on c None) n (after_stop (with_switch w c) c t) × (told (note_now w (note.Stop t c) ∷ []) u (tell w u) ≡ tell (after_stop (with_switch w c) c t) u)
   off_with on w c t l within runs-on h =
       let x = record w.passing { switching = switch_at w c } in
       let z = sound_stopped on n w c t l within runs-on h in
@@ -48,9 +48,24 @@ module _ (u n : ℕ) where
       keeps_if (λ (v : WorldState). IsSound (Some t) (set on c None) n (after_stop v c t) × (told (note_now w (note.Stop t c) ∷ []) u (tell w u) ≡ tell (after_stop v c t) u)) (world.is_by_linux w) (record w { passing = x }) w
       (sound_sets (Some t) (set on c None) n (after_stop w c t) w.claimed w.kicked w.preempted w.call.claims x (λ d e. e) z, e) (z, e)
 
-  -- what leaves_cpu leaves, and the callback that it calls
-  pub goes_off : (on : List (Option ℕ)) (s : State) (c t x : ℕ) → c < length on → t < n → get_or on c None ≡ Some t → IsSound None on n s.world → Goes u n (Some t) (set on c None) (with_world s (after_stop (with_switch s.world c) c t)) (after_stopping (with_world s (after_stop (with_switch s.world c) c t)) c t x)
-  goes_off on s c t x l within runs-on h = goes_stopping u n (Some t) (set on c None) (with_world s (after_stop (with_switch s.world c) c t)) c t x (rw (length-set on c None) l) (off_with on s.world c t l within runs-on h).0
+  -- what is so once it has left: a note tells it, and the callback tells no more
+  pub record HasLeft (on : List (Option ℕ)) (s : State) (c t : ℕ) (r : Stepped) : Type 0 where
+    pub sound : IsSound (Some t) (set on c None) n r.state.world
+    pub tells : told r.notes u (tell s.world u) ≡ tell r.state.world u
+    pub only : u ≡ t → (x : Told) → told r.notes u x ≡ told_by (note_now s.world (note.Stop t c)) u x
+
+  pub goes_leaves_cpu : (on : List (Option ℕ)) (s : State) (c t x : ℕ) → c < length on → t < n → get_or on c None ≡ Some t → IsSound None on n s.world → HasLeft on s c t (leaves_cpu s c t x)
+  unfolding leaves_cpu
+  goes_leaves_cpu on s c t x l within runs-on h = by_stop (λ (r : Stepped). HasLeft on s c t (after (note_now s.world (note.Stop t c) ∷ []) r)) off c t x left
+    where
+      off : State
+      off = with_world s (after_stop (with_switch s.world c) c t)
+
+      left : (r : Stepped) → IsSwitch off t c (after_charge off.world t) r → HasLeft on s c t (after (note_now s.world (note.Stop t c) ∷ []) r)
+      left r is =
+          let o = off_with on s.world c t l within runs-on h in
+          let y = goes_stops u n (Some t) (set on c None) off t c (rw (length-set on c None) l) o.0 r is in
+          record { sound = y.0; tells = ap (λ z. told r.notes u z) o.1 ∙ y.1.tells; only = λ e z. y.1.silent (ap Some (sym e)) (told_by (note_now s.world (note.Stop t c)) u z) }
 
   -- ---- sleep
 
@@ -84,8 +99,8 @@ module _ (u n : ℕ) where
   unfolding falls_asleep
   goes_falls_asleep on s t c x within l h a =
       let v = with_world s (after_sleep s.world t) in
-      let r = call_by_linux v callback.Quiescent (task_and_number t 1) t c in
-      let y = goes_call_by_linux u n None on v callback.Quiescent (task_and_number t 1) t c l h in
+      let r = falls_asleep s t c in
+      let y : Goes u n None on v r = goes_call_by_linux u n None on v _ _ t c l h in
       (y.0, ap (λ z. told r.notes u z) (rests on s.world t x within h a) ∙ y.1.tells)
 
   -- the note of a sleep
@@ -93,7 +108,7 @@ module _ (u n : ℕ) where
   leaving w t = (λ e. ap (λ b. if b then told_of (note.Sleep t) w.clock (tell w u) else tell w u) (eq-eqb u t e), λ d. told_another (note_now w (note.Sleep t)) u (tell w u) (ne_eqb u t d))
 
   goes_sleep_from_cpu : (on : List (Option ℕ)) (s : State) (t c : ℕ) → t < n → c < length on → get_or on c None ≡ Some t → IsSound None on n s.world → (on : List (Option ℕ)) × (let r = sleep_from_cpu s t c in IsSound None on n r.state.world × (told r.notes u (told_by (note_now s.world (note.Sleep t)) u (tell s.world u)) ≡ tell r.state.world u))
-  unfolding sleep_from_cpu leaves_cpu looks_after_sleep told_of_sleep
+  unfolding sleep_from_cpu looks_after_sleep told_of_sleep
   goes_sleep_from_cpu on s t c within l runs-on h =
       (y.0, (y.1.0, told_append r.notes (q.notes ++ k.notes) u x ∙ (told_append q.notes k.notes u (told r.notes u x) ∙ (ap (λ z. told k.notes u z) (z.1 ∙ sym f.1) ∙ y.1.1.tells))))
     where
@@ -106,32 +121,26 @@ module _ (u n : ℕ) where
       l' : c < length now
       l' = rw (length-set on c None) l
 
-      off : State
-      off = with_world s (after_stop (with_switch s.world c) c t)
-
-      b : Stepped
-      b = after_stopping off c t 0
-
-      o : Goes u n (Some t) now off b
-      o = goes_off on s c t 0 l within runs-on h
-
       r : Stepped
       r = leaves_cpu s c t 0
 
-      left : IsLeaving t b.state.world (told r.notes u x)
+      o : HasLeft on s c t r
+      o = goes_leaves_cpu on s c t 0 l within runs-on h
+
+      left : IsLeaving t r.state.world (told r.notes u x)
       left = record {
-        here = λ e. ap (λ z. told b.notes u z) (ap (λ z. told_by (note_now s.world (note.Stop t c)) u z) ((leaving s.world t).0 e) ∙ ap (λ (d : Bool). if d then asleep else record { runnable = false; cpu = cpu_of s.world u; queue = None; since = None }) (eq-eqb u t e)) ∙ o.1.silent (ap Some (sym e)) asleep;
-        others = λ d. ap (λ z. told b.notes u (told_by (note_now s.world (note.Stop t c)) u z)) ((leaving s.world t).1 d) ∙ (ap (λ z. told b.notes u z) (off_with on s.world c t l within runs-on h).1 ∙ o.1.tells);
+        here = λ e. o.only e x ∙ (ap (λ z. told_by (note_now s.world (note.Stop t c)) u z) ((leaving s.world t).0 e) ∙ ap (λ (d : Bool). if d then asleep else record { runnable = false; cpu = cpu_of s.world u; queue = None; since = None }) (eq-eqb u t e));
+        others = λ d. ap (λ z. told r.notes u z) ((leaving s.world t).1 d) ∙ o.tells;
       }
 
-      there : t < length b.state.world.tasks
-      there = subst (λ j. t < j) (sym o.0.tasks) within
+      there : t < length r.state.world.tasks
+      there = subst (λ j. t < j) (sym o.sound.tasks) within
 
       q : Stepped
       q = falls_asleep r.state t c
 
       z : IsSound None now n q.state.world × (told q.notes u (told r.notes u x) ≡ tell q.state.world u)
-      z = goes_falls_asleep now r.state t c (told r.notes u x) there l' (sound_asleep now n b.state.world t within o.0) left
+      z = goes_falls_asleep now r.state t c (told r.notes u x) there l' (sound_asleep now n r.state.world t within o.sound) left
 
       f : IsSound None now n (told_of_sleep q.state t).world × (tell (told_of_sleep q.state t).world u ≡ tell q.state.world u)
       f = keeps_if (λ (v : State). IsSound None now n v.world × (tell v.world u ≡ tell q.state.world u)) (is_by_linux q.state) (with_world q.state (with_slept q.state.world t)) q.state (sound_sets None now n q.state.world q.state.world.claimed q.state.world.kicked q.state.world.preempted q.state.world.call.claims (record q.state.world.passing { slept = Some t }) (λ d e. e) z.0, refl) (z.0, refl)

@@ -1,19 +1,18 @@
 -- A CPU ticks, or CPUs look for work: the notes tell the state of each task afterwards.
-use Rattle.std.proofs.Common.{◌≡◌, ℕ, zero, suc, ◌<◌, ◌≤◌, Bool, true, false, ◌==◌, ◌&&◌, nat_lt, ◌⊎◌, inl, inr, if◌then◌else◌, List, ◌∷◌, ◌++◌, length, set, get_or, Option, Some, None, refl, sym, ap, ◌∙◌, subst, arith}
+use Rattle.std.proofs.Common.{◌≡◌, ℕ, zero, suc, ◌<◌, ◌≤◌, Bool, true, false, ◌==◌, ◌&&◌, nat_lt, ◌⊎◌, inl, inr, if◌then◌else◌, List, length, set, get_or, Option, Some, None, refl, sym, ap, ◌∙◌, subst, arith}
 use Rattle.std.proofs.lemmas.Bool.{cases_lt, eq-eqb}
 use Rattle.std.proofs.lemmas.List.{length-set, get_or-set_same, get_or_past}
 use Rattle.std.proofs.lemmas.List.Sums.{sum_by-set}
 use Rattle.scx_dsq.specs.Laws.{one_if}
 use Rattle.scx_isa_semantics.specs.declared.callbacks.Callback.TheVariants as callback
-use Rattle.scx_sched_world.specs.declared.notes.What.TheVariants as note
 use Rattle.scx_sched_world.specs.CpuSets.{is_in_set, but_cpu}
-use Rattle.scx_sched_world.specs.World.{WorldState, with_switch, task_at, is_this, or_this, this_if, lowest_below, is_throttled, running, without_kick, note_now}
+use Rattle.scx_sched_world.specs.World.{WorldState, task_at, is_this, or_this, this_if, lowest_below, is_throttled, running, without_kick}
 use Rattle.scx_sched_world.specs.Pending.{is_pending, pending_below, first_pending}
-use Rattle.scx_sched_world.specs.Tasks.{after_cut_off, after_stop, after_tick, ran_a_tick, used_ms}
+use Rattle.scx_sched_world.specs.Tasks.{after_cut_off, after_tick, ran_a_tick, used_ms}
 use Rattle.scx_sched_machine.specs.Steps.{State, Stepped, stays, with_world, one_after_other, is_by_linux}
 use Rattle.scx_sched_machine.specs.Callbacks.{call_back, one_task}
 use Rattle.scx_sched_machine.specs.Parking.{park}
-use Rattle.scx_sched_machine.specs.Cycle.{after_stopping, cycle}
+use Rattle.scx_sched_machine.specs.Cycle.{cycle}
 use Rattle.scx_sched_machine.specs.Rounds.{most_rounds, next_to_look, look_past, look_from, round, round_then, rounds, with_rounds}
 use Rattle.scx_sched_machine.specs.Events.{leaves_cpu, throttle, ends_slices, expire, use_up, hears_tick, tick_heard, count_down, tick_idle, tick_of, tick}
 use Rattle.scx_sched_machine.proofs.Choices.{keeps_if}
@@ -21,13 +20,12 @@ use Rattle.scx_sched.specs.Once.{IsSound}
 use Rattle.scx_sched.proofs.Homes.{lowest_is_there}
 use Rattle.scx_sched.proofs.Parking.{sound_used_ms}
 use Rattle.scx_sched.proofs.Sound.{sound_marks, sound_sets, sound_ticked}
-use Rattle.scx_laws.specs.Telling.{tell, told}
+use Rattle.scx_laws.specs.Telling.{tell}
 use Rattle.scx_laws.proofs.Noted.{tell_task}
-use Rattle.scx_laws.proofs.NotedCalls.{IsTold, told_both}
 use Rattle.scx_laws.proofs.NotedPuts.{Goes, told_plainly, puts_told, goes_stays, goes_call_back, puts_park}
 use Rattle.scx_laws.proofs.NotedCycles.{joins, goes_from, goes_cycle}
 use Rattle.scx_laws.proofs.NotedWakes.{Leads}
-use Rattle.scx_laws.proofs.NotedSleeps.{off_with, goes_off}
+use Rattle.scx_laws.proofs.NotedSleeps.{goes_leaves_cpu}
 
 -- who runs is a task that there is
 runs_known : (n : ℕ) (on : List (Option ℕ)) (w : WorldState) (c t : ℕ) → c < length w.cpus → running w c ≡ Some t → IsSound None on n w → t < n
@@ -68,37 +66,16 @@ module _ (u n : ℕ) where
 
   -- a task that may not run any more leaves its CPU and is parked
   goes_throttle : (on : List (Option ℕ)) (s : State) (c t : ℕ) → t < n → c < length on → get_or on c None ≡ Some t → IsSound None on n s.world → Leads u n s (throttle s c t)
-  unfolding throttle leaves_cpu
-  goes_throttle on s c t within l runs-on h = (y.0, (y.1.0, told_plainly u n s.world k.state.world (note_now s.world (note.Stop t c) ∷ (b.notes ++ (p.notes ++ k.notes))) (ap (λ x. told (b.notes ++ (p.notes ++ k.notes)) u x) (off_with u n on s.world c t l within runs-on h).1 ∙ rest-so.tells)))
-    where
-      now : List (Option ℕ)
-      now = set on c None
-
-      off : State
-      off = with_world s (after_stop (with_switch s.world c) c t)
-
-      b : Stepped
-      b = after_stopping off c t 1
-
-      o : Goes u n (Some t) now off b
-      o = goes_off u n on s c t 1 l within runs-on h
-
-      p : Stepped
-      p = park b.state t
-
-      put : IsSound None now n p.state.world
-      put = (puts_park u n now t b.state within o.0).0
-
-      k : Stepped
-      k = cycle p.state c None true
-
-      y : Leads u n p.state k
-      y = goes_cycle u n now p.state c None true (rw (length-set on c None) l) tt (get_or-set_same {A = Option ℕ} on c None None l) put
-
-      rest-so : IsTold u None off.world k.state.world (b.notes ++ (p.notes ++ k.notes))
-      rest-so =
-          told_both u None off.world b.state.world k.state.world b.notes (p.notes ++ k.notes) (told_plainly u n off.world b.state.world b.notes o.1.tells)
-          (told_both u None b.state.world p.state.world k.state.world p.notes k.notes (puts_told u n now t b.state p o.0 (puts_park u n now t b.state within o.0)) y.1.1)
+  unfolding throttle
+  goes_throttle on s c t within l runs-on h =
+      let now = set on c None in
+      let r = leaves_cpu s c t 1 in
+      let o = goes_leaves_cpu u n on s c t 1 l within runs-on h in
+      let p = park r.state t in
+      let x = puts_park u n now t r.state within o.sound in
+      let k = cycle p.state c None true in
+      let y = goes_cycle u n now p.state c None true (rw (length-set on c None) l) tt (get_or-set_same {A = Option ℕ} on c None None l) x.0 in
+      (y.0, joins u n y.0 s r (one_after_other p k) (told_plainly u n s.world r.state.world r.notes o.tells) (joins u n y.0 r.state p k (puts_told u n now t r.state p o.sound x) y.1))
 
   goes_expire : (on : List (Option ℕ)) (s : State) (c t : ℕ) → c < length s.world.cpus → running s.world c ≡ Some t → IsSound None on n s.world → Leads u n s (expire s c t)
   unfolding expire

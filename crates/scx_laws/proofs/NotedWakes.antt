@@ -1,5 +1,6 @@
 -- A task wakes: the notes tell the state of each task afterwards.
 use Rattle.std.proofs.Common.{◌≡◌, ℕ, ◌<◌, Bool, true, false, ◌&&◌, not, nat_lt, if◌then◌else◌, unwrap_or, List, [], ◌∷◌, length, get_or, Option, Some, None, is_some, refl, sym, ap, ◌∙◌, subst, arith}
+use Rattle.scx_laws.proofs.BindingTasks.{nobody_is}
 use Rattle.std.proofs.lemmas.Bool.{and_parts}
 use Rattle.std.proofs.lemmas.Bool.Decides.{nat_tests}
 use Rattle.std.proofs.lemmas.List.{get_or-set_same, get_or-set_other}
@@ -31,14 +32,14 @@ use Rattle.scx_sched.proofs.Sound.{sound_begun, sound_marks, sound_waker, sound_
 use Rattle.scx_sched.proofs.Unchanged.{same_linux}
 use Rattle.scx_laws.specs.Telling.{tell, told_of, told}
 use Rattle.scx_laws.proofs.Choosing.{chosen_there}
-use Rattle.scx_laws.proofs.Noted.{is_nobody, same_told, one_note, tell_marks}
+use Rattle.scx_laws.proofs.Noted.{same_told, one_note, tell_marks}
 use Rattle.scx_laws.proofs.NotedCalls.{told_nothing}
 use Rattle.scx_laws.proofs.NotedPuts.{sound_steps, Puts, told_plainly, puts_told, goes_stays, goes_call_back, goes_call_by_linux, puts_enters, puts_put}
 use Rattle.scx_laws.proofs.NotedCycles.{Goes-to, joins, goes_from, goes_cycle}
 
 -- no task runs on an idle CPU
 idle_is_free : (w : WorldState) (c : ℕ) → is_idle w c ≡ true → running w c ≡ None
-idle_is_free w c e = is_nobody (running w c) (and_parts (nat_lt c (length w.cpus)) _ (and_parts _ (not (is_this c w.cycling)) e).0).1
+idle_is_free w c e = nobody_is (running w c) (and_parts (nat_lt c (length w.cpus)) _ (and_parts _ (not (is_this c w.cycling)) e).0).1
 
 -- the CPU that is chosen by default is there
 chosen_is_there : (w : WorldState) (t c : ℕ) → (task_at w t).prev_cpu < length w.cpus → choice w t ≡ Some c → c < length w.cpus

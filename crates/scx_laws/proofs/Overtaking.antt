@@ -1,5 +1,7 @@
 -- Under a policy of one line no task overtakes another: each leaves the line at its front, or as it goes to sleep.
 use Rattle.std.proofs.Common.{◌≡◌, ℕ, ◌+◌, ◌<◌, ◌≤◌, true, false, ◌==◌, not, ◌⊎◌, inl, inr, if◌then◌else◌, [], length, get_or, Option, Some, None, is_none, option_map, refl, sym, ap, ◌∙◌, arith, suc, Bool, count_by, ◌∷◌}
+use Rattle.scx_sched.proofs.Waiting.{without_other}
+use Rattle.std.proofs.lemmas.Option.{same_Some}
 use Rattle.std.specs.List.{list_all}
 use Rattle.std.proofs.lemmas.Bool.{cases_eq, cases_lt, eq-eqb, and_parts}
 use Rattle.std.proofs.lemmas.List.{get_or-set_same, get_or-set_other, get_or_past, set_past}
@@ -38,10 +40,6 @@ left_had s x v e is = go (cases_eq v x) (cases_lt x (length s.entries))
     go (inl y) (inr past) = sym (ap (λ xs. get_or {A = Option Entry} xs v None) (set_past {X = Option Entry} s.entries x None past)) ∙ is
     go (inr d) l = sym (get_or-set_other {A = Option Entry} s.entries x v None None d) ∙ is
 
--- who leaves is another, and its entry stays
-left_stays : (s : QueueState) (x v : ℕ) → (v ≡ x → ⊥) → entry_of (without_task s x) v ≡ entry_of s v
-left_stays s x v other = get_or-set_other {A = Option Entry} s.entries x v None None other
-
 module _ (t u : ℕ) (first second : Entry) (here : first.queue ≡ 0) (there : second.queue ≡ 0) (before : is_before first second ≡ true) where
   -- the stamp of the first entry is that of an earlier push; as long as the first task has its entry, so has the second
   abbrev pub Follows : QueueState → Type 0
@@ -52,17 +50,14 @@ module _ (t u : ℕ) (first second : Entry) (here : first.queue ≡ 0) (there : 
   MayLeave s x = u ≡ x → entry_of s t ≡ Some first → ⊥
 
   follows_gone : (s : QueueState) (x : ℕ) → MayLeave s x → Follows s → Follows (without_task s x)
-  follows_gone s x may h = (h.0, λ is. let had = left_had s x t first is in left_stays s x u (λ y. may y had) ∙ h.1 had)
+  follows_gone s x may h = (h.0, λ is. let had = left_had s x t first is in without_other s x u (λ y. may y had) ∙ h.1 had)
 
   -- an entry of another queue is another one
   of_other : (s : QueueState) (q x : ℕ) → policy_end ≤ q → queue_of s x ≡ Some q → Follows s → MayLeave s x
   of_other s q x own at h same is = go (ap (λ (o : Option Entry). option_map (λ (e : Entry). e.queue) o) (ap (λ k. entry_of s k) (sym same) ∙ h.1 is))
     where
       go : queue_of s x ≡ Some second.queue → ⊥
-      go y = let low : q ≡ 0 = same_number q second.queue (sym at ∙ y) ∙ there in omega (arith, own, low)
-        where
-          same_number : (a b : ℕ) → Some a ≡ Some b → a ≡ b
-          same_number a b e = cc
+      go y = let low : q ≡ 0 = same_Some q second.queue (sym at ∙ y) ∙ there in omega (arith, own, low)
 
   follows_pushed : (s : QueueState) (q x : ℕ) → Follows s → Follows (after_push s q x Fifo)
   follows_pushed s q x h = go (push_refusal s q x Fifo) refl
@@ -143,13 +138,10 @@ module _ (before : QueueState) (mine : Entry) (fifo : same_sort mine.rank Fifo �
       new : (u : ℕ) (other : Entry) → entry_of (with_place s q x Fifo) u ≡ Some other → is_before other mine ≡ true → entry_of before u ≡ Some other
       new u other is ahead = go (cases_eq u x) (cases_lt x (length s.entries))
         where
-          same : (a b : Entry) → Some a ≡ Some b → a ≡ b
-          same a b e = cc
-
           go : (u ≡ x) ⊎ (u ≡ x → ⊥) → (x < length s.entries) ⊎ (length s.entries ≤ x) → entry_of before u ≡ Some other
           go (inl y) (inl l) =
               let e : Some (next_entry s q Fifo) ≡ Some other = sym (ap (λ k. entry_of (with_place s q x Fifo) k) y ∙ get_or-set_same {A = Option Entry} s.entries x (Some (next_entry s q Fifo)) None l) ∙ is in
-              let bad : true ≡ false = sym ahead ∙ (ap (λ k. is_before k mine) (sym (same (next_entry s q Fifo) other e)) ∙ comes_after s q h.0) in
+              let bad : true ≡ false = sym ahead ∙ (ap (λ k. is_before k mine) (sym (same_Some (next_entry s q Fifo) other e)) ∙ comes_after s q h.0) in
               absurd (cc)
           go (inl y) (inr past) = h.1 u other (sym (ap (λ xs. get_or {A = Option Entry} xs u None) (set_past {X = Option Entry} s.entries x (Some (next_entry s q Fifo)) past)) ∙ is) ahead
           go (inr d) l = h.1 u other (sym (get_or-set_other {A = Option Entry} s.entries x u (Some (next_entry s q Fifo)) None d) ∙ is) ahead

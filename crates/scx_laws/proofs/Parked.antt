@@ -47,7 +47,7 @@ tree_kept x = off_queues (HasTree x) (λ w y other h. h) (λ w n o later h. h) (
 tree_builtin : (x : Hierarchy) → KeepsBuiltin (HasTree x)
 tree_builtin x w t h = h
 
-local_apart : (c : ℕ) → (local_on c == parked_queue) ≡ false
+pub local_apart : (c : ℕ) → (local_on c == parked_queue) ≡ false
 local_apart c = ne_eqb (local_on c) parked_queue (λ x. omega (arith, x))
 
 module _ (n : ℕ) (P : List (Option ℕ) → QueueState → Hierarchy → Type 0) (k : IsOfParked P) where

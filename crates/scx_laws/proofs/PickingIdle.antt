@@ -1,35 +1,31 @@
 -- The processor that is chosen for a task is the one that the rules allow.
 use Rattle.std.proofs.Common.{unwrap_or, ◌≡◌, ℕ, ◌<◌, ◌≤◌, Bool, true, false, not, nat_lt, ◌⊎◌, inl, inr, if◌then◌else◌, length, Option, Some, None, refl, sym, ap, subst, ◌∙◌, arith}
-use Rattle.std.proofs.lemmas.Bool.{cases_lt}
+use Rattle.std.proofs.lemmas.Bool.{cases_lt, and_parts, and_from, and_right, false_from_ne_true, not-true}
 use Rattle.std.proofs.lemmas.Bool.Decides.{nat_tests}
 use Rattle.scx_sched_world.specs.World.{WorldState, is_by_linux, task_at, is_idle, is_claimed, is_free, may_run, lowest_cpu, is_free_for, free_choice, choice, default_choice, after_claim}
 use Rattle.scx_laws.specs.Helpers.{IsFree, IsFreeFor, IsChoice, ItsOwn, Lowest, NoneFree, NoneTracked, IsDefault, Chosen, NotChosen, with_claim, Claims, NoClaim, MakesClaim}
-use Rattle.scx_laws.proofs.Differing.{both_true, and_true, and_false, false_from, not_so}
+use Rattle.scx_laws.proofs.Differing.{not_so}
 use Rattle.scx_laws.proofs.BindingTasks.{none_below, is_lowest, lowest_from, none_from, allowed_is, allowed_of}
 
 -- ---- free processors
 
-not_true_is : (b : Bool) → not b ≡ true → b ≡ false
-not_true_is true e = absurd (cc)
-not_true_is false e = refl
-
 pub free_is : (w : WorldState) (c : ℕ) → is_free w c ≡ true → IsFree w c
-free_is w c e = let x = both_true (is_idle w c) (not (is_claimed w c)) e in record { idle = x.0; unclaimed = not_true_is (is_claimed w c) x.1 }
+free_is w c e = let x = and_parts (is_idle w c) (not (is_claimed w c)) e in record { idle = x.0; unclaimed = not-true (is_claimed w c) x.1 }
 
 pub free_of : (w : WorldState) (c : ℕ) → IsFree w c → is_free w c ≡ true
-free_of w c h = and_true (is_idle w c) (not (is_claimed w c)) h.idle (ap (λ b. not b) h.unclaimed)
+free_of w c h = and_from (is_idle w c) (not (is_claimed w c)) h.idle (ap (λ b. not b) h.unclaimed)
 
 free_for_is : (w : WorldState) (t c : ℕ) → is_free_for w t c ≡ true → IsFreeFor w t c
-free_for_is w t c e = let x = both_true (may_run w t c) (is_free w c) e in record { allowed = allowed_is w t c x.0; free = free_is w c x.1 }
+free_for_is w t c e = let x = and_parts (may_run w t c) (is_free w c) e in record { allowed = allowed_is w t c x.0; free = free_is w c x.1 }
 
 free_for_of : (w : WorldState) (t c : ℕ) → IsFreeFor w t c → is_free_for w t c ≡ true
-free_for_of w t c h = and_true (may_run w t c) (is_free w c) (allowed_of w t c h.allowed) (free_of w c h.free)
+free_for_of w t c h = and_from (may_run w t c) (is_free w c) (allowed_of w t c h.allowed) (free_of w c h.free)
 
 taken : (w : WorldState) (t c : ℕ) → is_free_for w t c ≡ false → ¬ IsFreeFor w t c
 taken w t c e h = not_so (is_free_for w t c) e (free_for_of w t c h)
 
 taken_of : (w : WorldState) (t c : ℕ) → ¬ IsFreeFor w t c → is_free_for w t c ≡ false
-taken_of w t c n = false_from (is_free_for w t c) (λ e. n (free_for_is w t c e))
+taken_of w t c n = false_from_ne_true (is_free_for w t c) (λ e. n (free_for_is w t c e))
 
 -- a processor that isn't there isn't free
 pub past_end : (w : WorldState) (c : ℕ) → length w.cpus ≤ c → is_free w c ≡ false
@@ -51,7 +47,7 @@ all_taken w t e c = go (cases_lt c (length w.cpus))
   where
     go : (c < length w.cpus) ⊎ (length w.cpus ≤ c) → is_free_for w t c ≡ false
     go (inl l) = none_below (length w.cpus) (is_free_for w t) e c l
-    go (inr past) = and_false (may_run w t c) (is_free w c) (past_end w c past)
+    go (inr past) = and_right (may_run w t c) (is_free w c) (past_end w c past)
 
 -- ---- the choice
 

@@ -9,14 +9,14 @@ use Rattle.scx_sched_world.specs.declared.notes.Note.{Note}
 use Rattle.scx_sched_world.specs.Ids.{local_on}
 use Rattle.scx_sched_world.specs.World as world
 use Rattle.scx_sched_world.specs.World.{WorldState, with_task, task_at, with_switch, switch_at, with_waker, with_slept, is_idle, choice, after_claim, cycling_by_linux, running}
-use Rattle.scx_sched_world.specs.Tasks.{with_home, homed, after_switch}
+use Rattle.scx_sched_world.specs.Tasks.{with_home, homed, after_switch, after_sleep}
 use Rattle.scx_sched_policy.specs.Policy.{program_of}
 use Rattle.scx_sched_machine.specs.Steps.{State, Stepped, stays, with_world, one_after_other, is_by_linux, kicked, kicked_if_idle}
 use Rattle.scx_sched_machine.specs.Callbacks.{call_back, call_by_linux, one_task, two_numbers}
 use Rattle.scx_sched_machine.specs.Custody.{tells_each, moved_as, hears_dequeue, tells_left, tells_dequeued, tells_dequeued_if}
 use Rattle.scx_sched_machine.specs.Firing.{due, fires, fire, fire_below, fire_all}
 use Rattle.scx_sched_machine.specs.Cycle.{keeps_slice, asks_again, switched, picked, give_up, tells_idle, tells_busy, cycling, falls_idle, hears_idle, becomes_idle, concluded}
-use Rattle.scx_sched_machine.specs.Events.{inserted_by_choice, chosen, from_waker, told_of_sleep, is_tick_time, hears_tick, tick_heard}
+use Rattle.scx_sched_machine.specs.Events.{inserted_by_choice, chosen, from_waker, told_of_sleep, falls_asleep, is_tick_time, hears_tick, tick_heard}
 use Rattle.scx_sched_machine.specs.Rounds.{most_rounds, rounds, with_rounds}
 use Rattle.scx_sched_world.specs.Helpers.{due_now, alarm_at}
 
@@ -112,7 +112,12 @@ module _ (s : State) (plain : is_by_linux s ≡ false) where
   unfolding fire due
   fire_plain n = ap (λ b. fires (if b then due_now s.world (alarm_at s.world n) else None) s n) plain
 
--- nor do several
+-- a task sleeps, and the policy doesn't hear of it
+pub asleep_plain : (s : State) (t : ℕ) → is_by_linux (with_world s (after_sleep s.world t)) ≡ false → (c : ℕ) → falls_asleep s t c ≡ stays (with_world s (after_sleep s.world t))
+unfolding falls_asleep
+asleep_plain s t plain c = by_linux_plain (with_world s (after_sleep s.world t)) plain _ _ t c
+
+-- nor do several timers
 below_plain : (n : ℕ) (s : State) → is_by_linux s ≡ false → (fire_below n s).state ≡ s
 below_plain zero s plain = refl
 below_plain (suc n) s plain = let same = below_plain n s plain in ap (λ (v : State). (fire v n).state) same ∙ ap (λ (r : Stepped). r.state) (fire_plain s plain n)

@@ -1,9 +1,11 @@
 -- Helpers of Linux rules that read, choose or end a policy: what they answer and leave is allowed, and nothing else is.
-use Rattle.std.proofs.Common.{◌≡◌, ℕ, zero, suc, ◌<◌, ◌≤◌, Bool, true, false, ◌==◌, ◌||◌, ◌+◌, ◌*◌, ◌/◌, ◌%◌, ◌^◌, nat_lt, nat_le, ◌⊎◌, inl, inr, if◌then◌else◌, List, length, Option, Some, None, refl, sym, ◌∙◌, ap, subst, arith}
+use Rattle.std.proofs.Common.{◌≡◌, ℕ, zero, suc, ◌<◌, ◌≤◌, Bool, true, false, ◌==◌, ◌+◌, ◌*◌, ◌/◌, ◌%◌, ◌^◌, nat_lt, nat_le, ◌⊎◌, inl, inr, if◌then◌else◌, List, length, Option, Some, None, refl, sym, ◌∙◌, ap, subst, arith}
+use Rattle.scx_sched.proofs.Events.{is_task}
+use Rattle.scx_weights.proofs.Counting.{any_below_at}
 use Rattle.std.specs.Int.{w64, bit_at, cast_signed}
 use Rattle.std.proofs.lemmas.Nat.{div-add-mod'}
 use Rattle.std.proofs.lemmas.Bool.Decides.{nat_tests}
-use Rattle.std.proofs.lemmas.Bool.{cases_eq, cases_lt, eq-eqb}
+use Rattle.std.proofs.lemmas.Bool.{cases_lt, eq-eqb, and_parts, and_from, and_right, or_cases, false_from_ne_true}
 use Rattle.scx_weights.specs.Counting.{any_below}
 use Rattle.scx_dsq.specs.Queues.{exists, front_of}
 use Rattle.scx_dsq.specs.Laws.{one_if}
@@ -22,37 +24,19 @@ use Rattle.scx_laws.specs.Differences.{IsCurrent}
 use Rattle.scx_laws.specs.Helpers.{IsPolicyQueue, JudgesAsk, JudgesPick, TellsCurrent, IsOn, IsOnNone, GivenNone, TellsHome, OfTheTask, OfNoTask, TellsAllowed, MayThere, MayNotThere, NoOneMay, Draws, IsFreeIn, PicksFrom, PicksLowest, PicksNone, ClaimsThis, WasFree, WasTaken, IsEffect, Done, NamesTask, Wrong}
 use Rattle.scx_laws.proofs.BindingTasks.{none_below, is_lowest, lowest_from, none_from, allowed_is, allowed_of, outside_is, outside_of}
 use Rattle.scx_laws.proofs.PickingIdle.{free_is, free_of, past_end, free_within, claims, only_claims}
-use Rattle.scx_laws.proofs.Differing.{true_either, both_true, and_true, and_false, false_from, not_so, current_is, only_current, is_here, only_here}
+use Rattle.scx_laws.proofs.Differing.{not_so, current_is, only_current, is_here, only_here}
 use Rattle.scx_laws.proofs.Ejecting.{blames, only_blames}
 
 -- ---- tests as facts
 
-or_true : (b : Bool) → (b || true) ≡ true
-or_true true = refl
-or_true false = refl
-
 -- a test that passes for one of the first numbers
 pub some_below : (n : ℕ) (test : ℕ → Bool) → any_below n test ≡ true → (t : ℕ) × (t < n) × (test t ≡ true)
 some_below zero test e = absurd (cc)
-some_below (suc n) test e = go (λ x. some_below n test x) (true_either (any_below n test) (test n) e)
+some_below (suc n) test e = go (λ x. some_below n test x) (or_cases (any_below n test) (test n) e)
   where
     go : (any_below n test ≡ true → (t : ℕ) × (t < n) × (test t ≡ true)) → (any_below n test ≡ true) ⊎ (test n ≡ true) → (t : ℕ) × (t < suc n) × (test t ≡ true)
     go f (inl x) = let h = f x in (h.0, omega (arith, h.1), h.2)
     go f (inr x) = (n, omega (arith), x)
-
--- of the first numbers, one that passes is found
-pub is_below : (n t : ℕ) (test : ℕ → Bool) → t < n → test t ≡ true → any_below n test ≡ true
-is_below zero t test l e = absurd (omega (arith, l))
-is_below (suc n) t test l e = go (cases_eq t n) (λ d. is_below n t test (omega (arith, l, d)) e)
-  where
-    go : (t ≡ n) ⊎ (t ≡ n → ⊥) → ((t ≡ n → ⊥) → any_below n test ≡ true) → (any_below n test || test n) ≡ true
-    go (inl is) f = rw (← is, e) (or_true (any_below t test))
-    go (inr d) f = rw (f d) refl
-
--- a number that is the given one
-pub this_is : (c : ℕ) (o : Option ℕ) → is_this c o ≡ true → o ≡ Some c
-this_is c None e = absurd (cc)
-this_is c (Some d) e = let x : d ≡ c = grind (arith, nat_tests, e) in ap (λ y. Some y) x
 
 -- the given one passes
 pub this_of : (c : ℕ) (o : Option ℕ) → o ≡ Some c → is_this c o ≡ true
@@ -60,7 +44,7 @@ this_of c o e = ap (λ x. is_this c x) e ∙ eq-eqb c c refl
 
 -- a queue that is found is one of the policy
 pub there_is : (w : WorldState) (q : ℕ) → is_there w q ≡ true → IsPolicyQueue w q
-there_is w q e = let x = both_true (nat_lt q policy_end) (exists w.queues q) e in (grind (arith, nat_tests, x.0), x.1)
+there_is w q e = let x = and_parts (nat_lt q policy_end) (exists w.queues q) e in (grind (arith, nat_tests, x.0), x.1)
 
 -- one of the policy is found
 pub is_there_of : (w : WorldState) (q : ℕ) → IsPolicyQueue w q → is_there w q ≡ true
@@ -130,12 +114,12 @@ pub only_peek : (w : WorldState) (a : List Arg) (x : Answer) (v : WorldState) �
 only_peek w a x v (Done n j d e) = absurd d
 only_peek w a x v (NamesTask o j m e k) = rw (is_there_of w (given_number a 0) j) (e ∙ ap (λ y. task_or_null y) m, k)
 only_peek w a x v (Wrong NoSuchQueue j e k) =
-    let b = false_from (is_there w (given_number a 0)) (λ y. j (there_is w (given_number a 0) y)) in
+    let b = false_from_ne_true (is_there w (given_number a 0)) (λ y. j (there_is w (given_number a 0) y)) in
     rw b (e, only_blames w (reason.Fault NoSuchQueue) v k)
 only_peek w a x v (Wrong f j e k) = absurd j
 
 on_is : (w : WorldState) (t c : ℕ) → is_this t (current w c) ≡ true → IsCurrent w c (Some t)
-on_is w t c e = subst (λ o. IsCurrent w c o) (this_is t (current w c) e) (current_is w c)
+on_is w t c e = subst (λ o. IsCurrent w c o) (is_task t (current w c) e) (current_is w c)
 
 tells_current : (w : WorldState) (o : Option ℕ) → TellsCurrent w o (one_if (is_current_one w o))
 tells_current w None = GivenNone refl refl
@@ -147,12 +131,12 @@ tells_current w (Some t) = go (is_current w t) refl
     go : (b : Bool) → is_current w t ≡ b → TellsCurrent w (Some t) (one_if b)
     go true e = let h = some_below (length w.cpus) (λ c. is_this t (current w c)) e in IsOn t h.0 refl h.1 (on_is w t h.0 h.2) refl
     go false e =
-        IsOnNone t refl (λ c l h. not_so (is_current w t) e (is_below (length w.cpus) c (λ d. is_this t (current w d)) l (this_of t (current w c) (sym (only_current w c (Some t) h))))) refl
+        IsOnNone t refl (λ c l h. not_so (is_current w t) e (any_below_at (length w.cpus) c (λ d. is_this t (current w d)) l (this_of t (current w c) (sym (only_current w c (Some t) h))))) refl
 
 only_tells_current : (w : WorldState) (o : Option ℕ) (n : ℕ) → TellsCurrent w o n → n ≡ one_if (is_current_one w o)
 only_tells_current w o n (IsOn t c e l h k) =
-    k ∙ ap one_if (sym (is_below (length w.cpus) c (λ d. is_this t (current w d)) l (this_of t (current w c) (sym (only_current w c (Some t) h))))) ∙ ap (λ y. one_if (is_current_one w y)) (sym e)
-only_tells_current w o n (IsOnNone t e none k) = k ∙ ap one_if (sym (false_from (is_current w t) nowhere)) ∙ ap (λ y. one_if (is_current_one w y)) (sym e)
+    k ∙ ap one_if (sym (any_below_at (length w.cpus) c (λ d. is_this t (current w d)) l (this_of t (current w c) (sym (only_current w c (Some t) h))))) ∙ ap (λ y. one_if (is_current_one w y)) (sym e)
+only_tells_current w o n (IsOnNone t e none k) = k ∙ ap one_if (sym (false_from_ne_true (is_current w t) nowhere)) ∙ ap (λ y. one_if (is_current_one w y)) (sym e)
   where
     nowhere : is_current w t ≡ true → ⊥
     nowhere x = let h = some_below (length w.cpus) (λ c. is_this t (current w c)) x in none h.0 h.1 (on_is w t h.0 h.2)
@@ -245,10 +229,10 @@ only_random w a x v (Wrong f j e k) = absurd (some_fault f j)
 -- ---- a choice from a mask
 
 wanted_is : (w : WorldState) (mask c : ℕ) → is_free_in mask w c ≡ true → IsFreeIn w mask c
-wanted_is w mask c e = let x = both_true (bit_at mask c == 1) (is_free w c) e in record { wanted = grind (arith, nat_tests, x.0); free = free_is w c x.1 }
+wanted_is w mask c e = let x = and_parts (bit_at mask c == 1) (is_free w c) e in record { wanted = grind (arith, nat_tests, x.0); free = free_is w c x.1 }
 
 wanted_of : (w : WorldState) (mask c : ℕ) → IsFreeIn w mask c → is_free_in mask w c ≡ true
-wanted_of w mask c h = and_true (bit_at mask c == 1) (is_free w c) (eq-eqb (bit_at mask c) 1 h.wanted) (free_of w c h.free)
+wanted_of w mask c h = and_from (bit_at mask c == 1) (is_free w c) (eq-eqb (bit_at mask c) 1 h.wanted) (free_of w c h.free)
 
 unwanted : (w : WorldState) (mask c : ℕ) → is_free_in mask w c ≡ false → ¬ IsFreeIn w mask c
 unwanted w mask c e h = not_so (is_free_in mask w c) e (wanted_of w mask c h)
@@ -258,7 +242,7 @@ none_wanted w mask e c = go (cases_lt c (length w.cpus))
   where
     go : (c < length w.cpus) ⊎ (length w.cpus ≤ c) → is_free_in mask w c ≡ false
     go (inl l) = none_below (length w.cpus) (is_free_in mask w) e c l
-    go (inr past) = and_false (bit_at mask c == 1) (is_free w c) (past_end w c past)
+    go (inr past) = and_right (bit_at mask c == 1) (is_free w c) (past_end w c past)
 
 picks : (w : WorldState) (mask : ℕ) → PicksFrom w mask (pick_answer_by None (first_free_in mask w)) (after_claim w (first_free_in mask w))
 picks w mask = go (first_free_in mask w) refl
@@ -268,7 +252,7 @@ picks w mask = go (first_free_in mask w) refl
     go None x = PicksNone (λ d. unwanted w mask d (none_wanted w mask x d)) refl refl
 
 unwanted_of : (w : WorldState) (mask c : ℕ) → ¬ IsFreeIn w mask c → is_free_in mask w c ≡ false
-unwanted_of w mask c n = false_from (is_free_in mask w c) (λ e. n (wanted_is w mask c e))
+unwanted_of w mask c n = false_from_ne_true (is_free_in mask w c) (λ e. n (wanted_is w mask c e))
 
 first_is : (w : WorldState) (mask c : ℕ) → IsFreeIn w mask c → ((d : ℕ) → d < c → ¬ IsFreeIn w mask d) → first_free_in mask w ≡ Some c
 first_is w mask c f below =
@@ -355,7 +339,7 @@ only_claims_this w c n v (WasFree h k z) =
     let x = free_of w c h in
     (k ∙ ap one_if (sym x), only_claims w c v z ∙ ap (λ b. after_claim w (this_if b c)) (sym x))
 only_claims_this w c n v (WasTaken h k z) =
-    let x = false_from (is_free w c) (λ e. h (free_is w c e)) in
+    let x = false_from_ne_true (is_free w c) (λ e. h (free_is w c e)) in
     (k ∙ ap one_if (sym x), z ∙ ap (λ b. after_claim w (this_if b c)) (sym x))
 
 abbrev cpu_as : Bool → Option Fault

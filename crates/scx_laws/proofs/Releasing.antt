@@ -1,20 +1,22 @@
 -- As the clock grows all who may run again are let go: after that each task that is parked is throttled.
 use Rattle.std.proofs.Common.{◌≡◌, ℕ, zero, suc, ◌+◌, ◌<◌, ◌≤◌, ◌⊎◌, inl, inr, pos, Bool, true, false, ◌==◌, ◌&&◌, not, nat_le, cond, if◌then◌else◌, List, [], ◌∷◌, length, get_or, Option, Some, None, is_some, is_none, option_map, position, count_by, refl, sym, ap, ◌∙◌, subst, arith}
+use Rattle.scx_laws.proofs.Bounding.{stamp_before, sorted_fifo}
+use Rattle.std.proofs.lemmas.Option.{same_Some}
 use Rattle.std.specs.List.{list_all, position_or_len}
-use Rattle.std.proofs.lemmas.Bool.{cases_eq, cases_lt, eq-eqb, eqb-true, lt-ltb, and_parts, and_from, both_ways}
+use Rattle.std.proofs.lemmas.Bool.{cases_eq, cases_lt, eq-eqb, eqb-true, lt-ltb, and_parts, and_from, both_ways, not-true, and_right}
 use Rattle.std.proofs.lemmas.Bool.Decides.{nat_tests}
 use Rattle.std.proofs.lemmas.Int.{ints}
-use Rattle.std.proofs.lemmas.List.{get_or-set_same, get_or-set_other, get_or_default, set_past}
+use Rattle.std.proofs.lemmas.List.{get_or-set_same, get_or-set_other, get_or_default, set_past, get_or_past}
 use Rattle.std.proofs.lemmas.List.Quantifiers.{position-Some}
 use Rattle.std.proofs.lemmas.List.Folds.{list_all_at}
 use Rattle.std.proofs.lemmas.List.Sums.{sum_by-cons, fails_before_first, list_all-from_AllPass}
 use Rattle.scx_dsq.specs.declared.entries.Entry.{Entry}
 use Rattle.scx_dsq.specs.declared.entries.Rank.TheVariants.{Fifo}
-use Rattle.scx_dsq.specs.Entries.{same_sort, turn_by, turn, is_before}
+use Rattle.scx_dsq.specs.Entries.{turn_by, turn, is_before}
 use Rattle.scx_dsq.specs.Queues.{Entries, QueueState, only, entry_of, is_in, is_ahead, is_first, is_behind, is_right_behind, next_by, right_behind, front_of, behind_of}
 use Rattle.scx_dsq.specs.Calls.{push_refusal, next_entry, with_task, after_push, without_task, after_remove}
 use Rattle.scx_dsq.specs.Laws.{one_if, IsStamped}
-use Rattle.scx_dsq.proofs.Orders.{earlier_turns, before_turns, later_turn}
+use Rattle.scx_dsq.proofs.Orders.{earlier_turns}
 use Rattle.scx_weights.specs.Hierarchy.{Hierarchy}
 use Rattle.scx_weights.specs.Limits.{is_throttled}
 use Rattle.scx_sched_world.specs.Ids.{parked_queue}
@@ -38,9 +40,6 @@ all_fail p es none k l = fails_before_first p es k None (omega (arith, l, past (
 
 abbrev home : Option Entry → Option ℕ
 home o = option_map (λ p. p.queue) o
-
-same_entry : (p q : Entry) → Some p ≡ Some q → p ≡ q
-same_entry p q e = cc
 
 -- ---- the order of the parked
 
@@ -103,7 +102,7 @@ placed_new s t u p e = go (cases_eq u t) (cases_lt t (length s.entries))
     new = next_entry s parked_queue Fifo
 
     go : (u ≡ t) ⊎ (u ≡ t → ⊥) → (t < length s.entries) ⊎ (length s.entries ≤ t) → IsNew s t u p
-    go (inl x) (inl l) = inl (x, same_entry p new (sym e ∙ (ap (λ k. entry_of (with_task s parked_queue t Fifo) k) x ∙ get_or-set_same {A = Option Entry} s.entries t (Some new) None l)))
+    go (inl x) (inl l) = inl (x, same_Some p new (sym e ∙ (ap (λ k. entry_of (with_task s parked_queue t Fifo) k) x ∙ get_or-set_same {A = Option Entry} s.entries t (Some new) None l)))
     go (inl x) (inr past) = inr (ap (λ (xs : Entries). get_or xs u None) (sym (set_past s.entries t (Some new) past)) ∙ e)
     go (inr d) l = inr (sym (get_or-set_other {A = Option Entry} s.entries t u (Some new) None d) ∙ e)
 
@@ -143,22 +142,16 @@ line_comes s t stamped h = record { last = λ u p e at. last u p at (pushed_new 
 turn_is : (p : Entry) → p.rank ≡ Fifo → turn p ≡ pos p.stamp
 turn_is p e = ap (λ r. turn_by r p.stamp) e
 
-sort_is : (p : Entry) → p.rank ≡ Fifo → same_sort p.rank Fifo ≡ true
-sort_is p e = ap (λ r. same_sort r Fifo) e
-
-earlier_first : (p q : Entry) → p.rank ≡ Fifo → q.rank ≡ Fifo → p.stamp < q.stamp → is_before p q ≡ true
-earlier_first p q a b lt = before_turns p q (sort_is p a) (sort_is q b) (later_turn p.rank q.rank p.stamp q.stamp b lt)
-
 first_earlier : (p q : Entry) → p.rank ≡ Fifo → q.rank ≡ Fifo → is_before p q ≡ true → p.stamp < q.stamp
 first_earlier p q a b e =
-    let less = earlier_turns p q (sort_is p a) (sort_is q b) e in
+    let less = earlier_turns p q (sorted_fifo p.rank a) (sorted_fifo q.rank b) e in
     omega (arith, ints, less, turn_is p a, turn_is q b)
 
 not_first : (p q : Entry) → p.rank ≡ Fifo → q.rank ≡ Fifo → is_before q p ≡ false → p.stamp ≤ q.stamp
 not_first p q a b e = go (cases_lt q.stamp p.stamp)
   where
     go : (q.stamp < p.stamp) ⊎ (p.stamp ≤ q.stamp) → p.stamp ≤ q.stamp
-    go (inl lt) = absurd (both_ways (is_before q p) e (earlier_first q p b a lt))
+    go (inl lt) = absurd (both_ways (is_before q p) e (stamp_before q p b a lt))
     go (inr le) = le
 
 -- one that holds for all holds at each place
@@ -171,16 +164,7 @@ at_each f xs all k q e = go (f (Some q)) refl (cases_lt k (length xs))
     go false y (inr past) = absurd (none_there)
       where
         none_there : ⊥
-        none_there = let bad : None ≡ Some q = sym (get_past xs k past) ∙ e in absurd (cc)
-          where
-            get_past : (ys : Entries) (i : ℕ) → length ys ≤ i → get_or ys i None ≡ None
-            get_past [] i l = refl
-            get_past (y ∷ ys) zero l = absurd (omega (arith, l))
-            get_past (y ∷ ys) (suc i) l = get_past ys i (omega (arith, l))
-
-not_true : (b : Bool) → not b ≡ true → b ≡ false
-not_true true e = absurd (cc)
-not_true false e = refl
+        none_there = let bad : None ≡ Some q = sym (get_or_past {X = Option Entry} xs k None past) ∙ e in absurd (cc)
 
 -- ---- how many there are from a stamp on
 
@@ -242,11 +226,7 @@ pub is_counted : (k : ℕ) (q : Entry) → q.queue ≡ parked_queue → k ≤ q.
 is_counted k q at le = ap one_if (and_from (q.queue == parked_queue) (nat_le k q.stamp) (eq-eqb q.queue parked_queue at) (le_test k q.stamp le))
 
 pub isnt_counted : (k : ℕ) (q : Entry) → q.stamp < k → from_stamp k (Some q) ≡ 0
-isnt_counted k q lt = ap one_if (go (q.queue == parked_queue) (nat_le k q.stamp) (le_fails k q.stamp lt))
-  where
-    go : (a b : Bool) → b ≡ false → (a && b) ≡ false
-    go true b e = e
-    go false b e = refl
+isnt_counted k q lt = ap one_if (and_right (q.queue == parked_queue) (nat_le k q.stamp) (le_fails k q.stamp lt))
 
 -- ---- the walk over them
 
@@ -278,7 +258,7 @@ module _ (s : QueueState) (x : Hierarchy) (h : AreInLine s) where
             here = y;
             parked = at;
             others = λ u q f here.
-                let ahead : is_ahead parked_queue p (Some q) ≡ false = not_true (is_ahead parked_queue p (Some q)) (at_each (λ other. not (is_ahead parked_queue p other)) s.entries parts.1 u q f) in
+                let ahead : is_ahead parked_queue p (Some q) ≡ false = not-true (is_ahead parked_queue p (Some q)) (at_each (λ other. not (is_ahead parked_queue p other)) s.entries parts.1 u q f) in
                 inl (not_first p q (h.last t p y at) (h.last u q f here) (sym (ap (λ b. b && is_before q p) (eq-eqb q.queue parked_queue here)) ∙ ahead));
           }
 
@@ -290,7 +270,7 @@ module _ (s : QueueState) (x : Hierarchy) (h : AreInLine s) where
     behind_is = ap (λ o. right_behind s.entries o) here ∙ ap (λ r. next_by r s.entries p) (h.last t p here at)
 
     is_later : (u : ℕ) (q : Entry) → entry_of s u ≡ Some q → q.queue ≡ parked_queue → p.stamp < q.stamp → is_behind p (Some q) ≡ true
-    is_later u q f there lt = and_from (q.queue == p.queue) (is_before p q) (eq-eqb q.queue p.queue (there ∙ sym at)) (earlier_first p q (h.last t p here at) (h.last u q f there) lt)
+    is_later u q f there lt = and_from (q.queue == p.queue) (is_before p q) (eq-eqb q.queue p.queue (there ∙ sym at)) (stamp_before p q (h.last t p here at) (h.last u q f there) lt)
 
     -- the others, where those are the ones that come after it
     abbrev later_ones : QueueState
@@ -341,12 +321,7 @@ module _ (s : QueueState) (x : Hierarchy) (h : AreInLine s) where
           where
             by : (v < length s.entries) ⊎ (length s.entries ≤ v) → is_right_behind s.entries p (entry_of s v) ≡ true → ⊥
             by (inl l) right = both_ways (is_right_behind s.entries p (entry_of s v)) (none_at v l) right
-            by (inr past) right = let none : is_right_behind s.entries p (entry_of s v) ≡ false = ap (λ o. is_right_behind s.entries p o) (get_past s.entries v past) in both_ways (is_right_behind s.entries p (entry_of s v)) none right
-              where
-                get_past : (ys : Entries) (i : ℕ) → length ys ≤ i → get_or ys i None ≡ None
-                get_past [] i l = refl
-                get_past (y ∷ ys) zero l = absurd (omega (arith, l))
-                get_past (y ∷ ys) (suc i) l = get_past ys i (omega (arith, l))
+            by (inr past) right = let none : is_right_behind s.entries p (entry_of s v) ≡ false = ap (λ o. is_right_behind s.entries p o) (get_or_past {X = Option Entry} s.entries v None past) in both_ways (is_right_behind s.entries p (entry_of s v)) none right
 
     -- the one right behind it comes after it, and before all others that do
     pub record IsAfter (v : ℕ) : Type 0 where
@@ -377,6 +352,6 @@ module _ (s : QueueState) (x : Hierarchy) (h : AreInLine s) where
               later = first_earlier p r (h.last t p here at) (h.last v r f parked) both.1;
               first = λ u q g there lt.
                   let none = at_each (λ other. not (is_behind p other && is_ahead p.queue r other)) s.entries parts.1 u q g in
-                  let out : is_ahead p.queue r (Some q) ≡ false = not_true (is_ahead p.queue r (Some q)) (ap (λ b. not (b && is_ahead p.queue r (Some q))) (sym (is_later u q g there lt)) ∙ none) in
+                  let out : is_ahead p.queue r (Some q) ≡ false = not-true (is_ahead p.queue r (Some q)) (ap (λ b. not (b && is_ahead p.queue r (Some q))) (sym (is_later u q g there lt)) ∙ none) in
                   not_first r q (h.last v r f parked) (h.last u q g there) (sym (ap (λ b. b && is_before q r) (eq-eqb q.queue p.queue (there ∙ sym at))) ∙ out);
             }

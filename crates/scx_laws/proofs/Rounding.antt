@@ -1,6 +1,6 @@
 -- The rounds of an event go as the rules allow, and in no other way.
 use Rattle.std.proofs.Common.{unwrap_or, ◌≡◌, ℕ, zero, suc, ◌<◌, ◌≤◌, Bool, true, false, ◌==◌, ◌&&◌, ◌||◌, ◌⊎◌, inl, inr, if◌then◌else◌, length, Option, Some, None, refl, sym, ◌∙◌, ap, subst, arith}
-use Rattle.std.proofs.lemmas.Bool.{cases_eq, cases_lt, eq-eqb, ne_eqb}
+use Rattle.std.proofs.lemmas.Bool.{cases_eq, cases_lt, eq-eqb, ne_eqb, and_parts, and_from, or_right}
 use Rattle.scx_sched_world.specs.CpuSets.{is_in_set}
 use Rattle.scx_sched_world.specs.World.{WorldState, task_at, running, is_idle, this_if, or_this}
 use Rattle.scx_sched_world.specs.Pending.{has_local, is_pending, pending_below, first_pending}
@@ -9,7 +9,7 @@ use Rattle.scx_sched_machine.specs.Steps.{State, Stepped, stays, one_after_other
 use Rattle.scx_sched_machine.specs.Cycle.{cycle}
 use Rattle.scx_sched_machine.specs.Rounds.{most_rounds, next_to_look, cut_off_if, look_past, look_from, round, round_then, rounds, with_rounds}
 use Rattle.scx_laws.specs.Rounds.{IsPending, WasKicked, HasWork, IsNext, looking, Preempts, Is_cut, Is_left, LooksForWork, Wakes_up, Runs_on, Runs_out, Rounds, Enough, NoneNext, OneMore, IsFollowed, No_rounds, Has_rounds}
-use Rattle.scx_laws.proofs.Differing.{none_if_never, both_true, and_true, not_so, not_zero, is_some_left}
+use Rattle.scx_laws.proofs.Differing.{none_if_never, not_so, not_zero, is_some_left}
 use Rattle.scx_laws.proofs.Cycling.{cycles, only_cycles}
 
 -- ---- who is pending
@@ -19,15 +19,11 @@ pends_is s c e = go (is_in_set s.world.kicked c) refl e
   where
     go : (b : Bool) → is_in_set s.world.kicked c ≡ b → (b || (is_idle s.world c && has_local s.world c)) ≡ true → IsPending s c
     go true x y = WasKicked x
-    go false x y = let h = both_true (is_idle s.world c) (has_local s.world c) y in HasWork h.0 (is_some_left (local_len s.world c) h.1)
+    go false x y = let h = and_parts (is_idle s.world c) (has_local s.world c) y in HasWork h.0 (is_some_left (local_len s.world c) h.1)
 
 pends_of : (s : State) (c : ℕ) → IsPending s c → is_pending s.world c ≡ true
 pends_of s c (WasKicked e) = ap (λ b. b || (is_idle s.world c && has_local s.world c)) e
-pends_of s c (HasWork i l) = second (is_in_set s.world.kicked c) (is_idle s.world c && has_local s.world c) (and_true (is_idle s.world c) (has_local s.world c) i (not_zero (local_len s.world c) l))
-  where
-    second : (x : Bool) (y : Bool) → y ≡ true → (x || y) ≡ true
-    second true y e = refl
-    second false y e = e
+pends_of s c (HasWork i l) = or_right (is_in_set s.world.kicked c) (is_idle s.world c && has_local s.world c) (and_from (is_idle s.world c) (has_local s.world c) i (not_zero (local_len s.world c) l))
 
 rests : (s : State) (c : ℕ) → is_pending s.world c ≡ false → ¬ IsPending s c
 rests s c e h = not_so (is_pending s.world c) e (pends_of s c h)

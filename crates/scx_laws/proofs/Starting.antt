@@ -1,7 +1,8 @@
 -- A machine begins as the rules allow, and in no other way.
 use Rattle.std.proofs.Common.{◌≡◌, ℕ, zero, suc, ℤ, ◌<◌, ◌≤◌, Bool, true, false, not, ◌&&◌, ◌||◌, nat_lt, ◌⊎◌, inl, inr, if◌then◌else◌, List, [], ◌++◌, length, Option, Some, None, is_some, Result, Ok, Err, refl, sym, ◌∙◌, ap, arith}
+use Rattle.scx_weights.proofs.Counting.{any_below_at}
 use Rattle.std.specs.Int.{w64, bit_at, cast_signed}
-use Rattle.std.proofs.lemmas.Bool.{cases_eq, cases_lt, eq-eqb, ne_eqb}
+use Rattle.std.proofs.lemmas.Bool.{cases_eq, cases_lt, eq-eqb, ne_eqb, and_parts, and_from, and_right, and_left, false_from_ne_true, or_right}
 use Rattle.std.proofs.lemmas.Bool.Decides.{nat_tests}
 use Rattle.scx_weights.specs.Counting.{any_below}
 use Rattle.scx_weights.specs.Hierarchy.{Hierarchy, is_active_task, own_weight, mask_of, is_in_mask}
@@ -10,26 +11,23 @@ use Rattle.scx_isa_semantics.specs.declared.callbacks.Callback.TheVariants as ca
 use Rattle.scx_isa_semantics.specs.Endings.{Ending}
 use Rattle.scx_vm.specs.Programs.{VerifiedProgram}
 use Rattle.scx_vm.specs.declared.arguments.Args.{Args}
+use Rattle.scx_sched_world.specs.declared.faults.Fault.{Fault}
 use Rattle.scx_sched_world.specs.declared.eject.Cause.{Cause}
 use Rattle.scx_sched_world.specs.declared.eject.Cause.TheVariants as reason
 use Rattle.scx_sched_world.specs.World.{WorldState, at_callback}
 use Rattle.scx_sched_policy.specs.Policy.{program_of}
 use Rattle.scx_sched_machine.specs.Steps.{State, CallMade, is_by_linux}
 use Rattle.scx_sched_machine.specs.Callbacks.{acting, after_callback, AreAnswered, no_arguments, one_task, task_and_number, two_numbers}
-use Rattle.scx_sched_machine.specs.Start.{is_nowhere, is_bad_shape, blank, init_ending, bad_answer, ok_unless, after_init, begin_ending, failure, begin_with, has_by_linux, begin_by_linux, enable, then_weigh, then_enable, after_enables, then_idle, after_idles, unmarked, all_idle, then_all_idle, all_enabled, init_calls, begin_calls, begin_calls_by_linux, weigh_calls, enable_calls, calls_below, idle_calls, idle_calls_below, calls_after_enables, calls_after_init}
-use Rattle.scx_laws.specs.Starts.{IsNowhere, HasBadShape, NoCpu, ManyCpus, Active, Nowhere, Judged, Faults, Exits, Stuck, Refuses, Accepts, Initializes, Passes, HasFault, HasExit, HasStuck, Answers, Calls, CallsByLinux, NotByPlain, IsNotThere, IsCalledFor, Enables, NotEnabled, IsEnabled, EnablesAll, Nobody, Failed, Next, TellsIdleAll, NoneTold, HasFailed, NextTold, AllAreIdle, NobodyHears, IdleFails, IdleTold, BeginsFrom, InitFails, EnableFails, Succeeds}
+use Rattle.scx_sched_machine.specs.Start.{is_nowhere, is_bad_shape, fault_answer, blank, init_ending, bad_answer, ok_unless, after_init, begin_ending, failure, begin_with, has_by_linux, begin_by_linux, enable, then_weigh, then_enable, after_enables, then_idle, after_idles, unmarked, all_idle, then_all_idle, all_enabled, init_calls, begin_calls, begin_calls_by_linux, weigh_calls, enable_calls, calls_below, idle_calls, idle_calls_below, calls_after_enables, calls_after_init}
+use Rattle.scx_laws.specs.Starts.{IsNowhere, HasBadShape, NoCpu, ManyCpus, Active, Nowhere, FailsBy, HasFault, HasExit, HasStuck, Judged, FailsFirst, Refuses, Accepts, Initializes, Passes, Fails, Answers, Calls, CallsByLinux, NotByPlain, IsNotThere, IsCalledFor, Enables, NotEnabled, IsEnabled, EnablesAll, Nobody, Failed, Next, TellsIdleAll, NoneTold, HasFailed, NextTold, AllAreIdle, NobodyHears, IdleFails, IdleTold, BeginsFrom, InitFails, EnableFails, Succeeds}
 use Rattle.scx_laws.specs.Differences.{HearsIdle, HasUpdateIdle}
 use Rattle.scx_laws.specs.Allowing.{RulesAllowStarts, RulesAllowStartsOnly, RulesRefuseShapes, RulesRefuseShapesOnly}
-use Rattle.scx_laws.proofs.Differing.{below, past, both_true, and_true, and_false, false_and, false_from, not_so}
-use Rattle.scx_laws.proofs.Readers.{some_below, is_below}
+use Rattle.scx_laws.proofs.Differing.{below, past, not_so}
+use Rattle.scx_laws.proofs.Readers.{some_below}
 use Rattle.scx_laws.proofs.Homing.{is_blank, only_blank}
 use Rattle.scx_laws.proofs.Calling.{only_ends, ends_as, answered_first, answered_second}
 
 -- ---- shapes
-
-or_true : (b : Bool) → (b || true) ≡ true
-or_true true = refl
-or_true false = refl
 
 -- a task of a bad shape
 abbrev is_bad_one : Hierarchy → ℕ → ℕ → Bool
@@ -37,23 +35,23 @@ is_bad_one tree cpus t = is_active_task tree t || is_nowhere tree cpus t
 
 nowhere_is : (tree : Hierarchy) (cpus t : ℕ) → is_nowhere tree cpus t ≡ true → IsNowhere tree cpus t
 nowhere_is tree cpus t e =
-    let x = both_true (nat_lt 0 (length tree.masks)) (not (any_below cpus (is_in_mask tree t))) e in
-    record { some = grind (arith, nat_tests, x.0); outside = λ c l h. not_so (not (any_below cpus (is_in_mask tree t))) (ap (λ b. not b) (is_below cpus c (is_in_mask tree t) l (eq-eqb (bit_at (mask_of tree t) c) 1 h))) x.1 }
+    let x = and_parts (nat_lt 0 (length tree.masks)) (not (any_below cpus (is_in_mask tree t))) e in
+    record { some = grind (arith, nat_tests, x.0); outside = λ c l h. not_so (not (any_below cpus (is_in_mask tree t))) (ap (λ b. not b) (any_below_at cpus c (is_in_mask tree t) l (eq-eqb (bit_at (mask_of tree t) c) 1 h))) x.1 }
 
 nowhere_of : (tree : Hierarchy) (cpus t : ℕ) → IsNowhere tree cpus t → is_nowhere tree cpus t ≡ true
 nowhere_of tree cpus t h =
     let l : nat_lt 0 (length tree.masks) ≡ true = grind (arith, nat_tests, h.some) in
-    and_true (nat_lt 0 (length tree.masks)) (not (any_below cpus (is_in_mask tree t))) l (ap (λ b. not b) (false_from (any_below cpus (is_in_mask tree t)) none))
+    and_from (nat_lt 0 (length tree.masks)) (not (any_below cpus (is_in_mask tree t))) l (ap (λ b. not b) (false_from_ne_true (any_below cpus (is_in_mask tree t)) none))
   where
     none : any_below cpus (is_in_mask tree t) ≡ true → ⊥
     none y = let x = some_below cpus (is_in_mask tree t) y in let k : bit_at (mask_of tree t) x.0 ≡ 1 = grind (arith, nat_tests, x.2) in h.outside x.0 x.1 k
 
 one_bad : (tree : Hierarchy) (cpus t : ℕ) → t < length tree.homes → is_bad_one tree cpus t ≡ true → is_bad_shape tree cpus ≡ true
-one_bad tree cpus t l e = rw (is_below (length tree.homes) t (λ u. is_bad_one tree cpus u) l e) (all_true (nat_lt cpus 1) (nat_lt 64 cpus))
+one_bad tree cpus t l e = rw (any_below_at (length tree.homes) t (λ u. is_bad_one tree cpus u) l e) (all_true (nat_lt cpus 1) (nat_lt 64 cpus))
   where
     all_true : (a b : Bool) → (a || (b || true)) ≡ true
     all_true true b = refl
-    all_true false b = or_true b
+    all_true false b = or_right b true refl
 
 -- of a bad shape none begins
 pub bad_shape : RulesRefuseShapes
@@ -77,7 +75,15 @@ pub only_bad_shape : RulesRefuseShapesOnly
 only_bad_shape tree cpus (NoCpu k) = rw k refl
 only_bad_shape tree cpus (ManyCpus l) = rw (past cpus 1 (omega (arith, l)), below 64 cpus l) refl
 only_bad_shape tree cpus (Active t l e) = one_bad tree cpus t l (ap (λ b. b || is_nowhere tree cpus t) e)
-only_bad_shape tree cpus (Nowhere t l h) = one_bad tree cpus t l (ap (λ b. is_active_task tree t || b) (nowhere_of tree cpus t h) ∙ or_true (is_active_task tree t))
+only_bad_shape tree cpus (Nowhere t l h) = one_bad tree cpus t l (ap (λ b. is_active_task tree t || b) (nowhere_of tree cpus t h) ∙ or_right (is_active_task tree t) true refl)
+
+-- ---- what fails
+
+-- a computation that looks at the cause and then at the answer
+fails_so : (e : Ending WorldState) (g : Option Cause → Option ℕ → Result State ℤ) → ((f : Fault) (a : Option ℕ) → g (Some (reason.Fault f)) a ≡ Err fault_answer) → ((n : ℤ) (a : Option ℕ) → g (Some (reason.Exit n)) a ≡ Err n) → g None None ≡ Err fault_answer → (n : ℤ) → FailsBy e n → Err n ≡ g e.outside.call.cause e.answer
+fails_so e g fault exit stuck _ (HasFault f x) = sym (fault f e.answer) ∙ ap (λ o. g o e.answer) (sym x)
+fails_so e g fault exit stuck _ (HasExit n x) = sym (exit n e.answer) ∙ ap (λ o. g o e.answer) (sym x)
+fails_so e g fault exit stuck _ (HasStuck x y) = sym stuck ∙ ap (λ a. g None a) (sym y) ∙ ap (λ o. g o e.answer) (sym x)
 
 -- ---- init
 
@@ -92,18 +98,16 @@ judged s e = go e.outside.call.cause refl e.answer refl
     answered n x y (inr d) = rw (ne_eqb n 0 d) (Refuses n x y (omega (arith, d)) refl)
 
     go : (f : Option Cause) → e.outside.call.cause ≡ f → (a : Option ℕ) → e.answer ≡ a → Judged s e (judged_as s e f a)
-    go (Some (reason.Fault f)) x a y = Faults f x refl
-    go (Some (reason.Exit n)) x a y = Exits n x refl
-    go None x None y = Stuck x y refl
+    go (Some (reason.Fault f)) x a y = FailsFirst fault_answer (HasFault f x) refl
+    go (Some (reason.Exit n)) x a y = FailsFirst n (HasExit n x) refl
+    go None x None y = FailsFirst fault_answer (HasStuck x y) refl
     go None x (Some n) y = answered n x y (cases_eq n 0)
 
 refused_as : (s : State) (e : Ending WorldState) (n : ℕ) → 0 < n → judged_as s e None (Some n) ≡ Err (cast_signed w64 n)
 refused_as s e n l = rw (ne_eqb n 0 (λ z. omega (arith, l, z))) refl
 
 only_judged : (s : State) (e : Ending WorldState) (r : Result State ℤ) → Judged s e r → r ≡ judged_as s e e.outside.call.cause e.answer
-only_judged s e r (Faults f x k) = k ∙ ap (λ o. judged_as s e o e.answer) (sym x)
-only_judged s e r (Exits n x k) = k ∙ ap (λ o. judged_as s e o e.answer) (sym x)
-only_judged s e r (Stuck x y k) = k ∙ ap (λ a. judged_as s e None a) (sym y) ∙ ap (λ o. judged_as s e o e.answer) (sym x)
+only_judged s e r (FailsFirst n h k) = k ∙ fails_so e (λ o a. judged_as s e o a) (λ f a. refl) (λ x a. refl) refl n h
 only_judged s e r (Refuses n x y l k) = k ∙ sym (refused_as s e n l) ∙ ap (λ a. judged_as s e None a) (sym y) ∙ ap (λ o. judged_as s e o e.answer) (sym x)
 only_judged s e r (Accepts x y k) = k ∙ ap (λ a. judged_as s e None a) (sym y) ∙ ap (λ o. judged_as s e o e.answer) (sym x)
 
@@ -134,15 +138,13 @@ passes : (s : State) (e : Ending WorldState) → Passes s e (passed s e)
 passes s e = go e.outside.call.cause refl e.answer refl
   where
     go : (f : Option Cause) → e.outside.call.cause ≡ f → (a : Option ℕ) → e.answer ≡ a → Passes s e (passed_as s e f a)
-    go (Some (reason.Fault f)) x a y = HasFault f x refl
-    go (Some (reason.Exit n)) x a y = HasExit n x refl
-    go None x None y = HasStuck x y refl
+    go (Some (reason.Fault f)) x a y = Fails fault_answer (HasFault f x) refl
+    go (Some (reason.Exit n)) x a y = Fails n (HasExit n x) refl
+    go None x None y = Fails fault_answer (HasStuck x y) refl
     go None x (Some n) y = Answers n x y refl
 
 only_passes : (s : State) (e : Ending WorldState) (r : Result State ℤ) → Passes s e r → r ≡ passed s e
-only_passes s e r (HasFault f x k) = k ∙ ap (λ o. passed_as s e o e.answer) (sym x)
-only_passes s e r (HasExit n x k) = k ∙ ap (λ o. passed_as s e o e.answer) (sym x)
-only_passes s e r (HasStuck x y k) = k ∙ ap (λ a. passed_as s e None a) (sym y) ∙ ap (λ o. passed_as s e o e.answer) (sym x)
+only_passes s e r (Fails n h k) = k ∙ fails_so e (λ o a. passed_as s e o a) (λ f a. refl) (λ x a. refl) refl n h
 only_passes s e r (Answers n x y k) = k ∙ ap (λ a. passed_as s e None a) (sym y) ∙ ap (λ o. passed_as s e o e.answer) (sym x)
 
 calls : (s : State) (b : Callback) (a : Args) (t c : ℕ) → AreAnswered (begin_calls s b a t c) → Calls s b a t c (begin_with s b a t c)
@@ -170,10 +172,10 @@ calls_by_linux s b a t c = go (is_by_linux s) refl (program_of s.policy b) refl
 
 only_calls_by_linux : (s : State) (b : Callback) (a : Args) (t c : ℕ) (r : Result State ℤ) → CallsByLinux s b a t c r → r ≡ begin_by_linux s b a t c
 unfolding begin_by_linux
-only_calls_by_linux s b a t c r (NotByPlain e k) = k ∙ ap (λ x. called_as s b a t c x) (sym (false_and (is_by_linux s) (is_some (program_of s.policy b)) e))
-only_calls_by_linux s b a t c r (IsNotThere e k) = k ∙ ap (λ x. called_as s b a t c x) (sym (and_false (is_by_linux s) (is_some (program_of s.policy b)) (ap (λ o. is_some o) e)))
+only_calls_by_linux s b a t c r (NotByPlain e k) = k ∙ ap (λ x. called_as s b a t c x) (sym (and_left (is_by_linux s) (is_some (program_of s.policy b)) e))
+only_calls_by_linux s b a t c r (IsNotThere e k) = k ∙ ap (λ x. called_as s b a t c x) (sym (and_right (is_by_linux s) (is_some (program_of s.policy b)) (ap (λ o. is_some o) e)))
 only_calls_by_linux s b a t c r (IsCalledFor p e k h) =
-    only_calls s b a t c r h ∙ ap (λ x. called_as s b a t c x) (sym (and_true (is_by_linux s) (is_some (program_of s.policy b)) e (ap (λ o. is_some o) k)))
+    only_calls s b a t c r h ∙ ap (λ x. called_as s b a t c x) (sym (and_from (is_by_linux s) (is_some (program_of s.policy b)) e (ap (λ o. is_some o) k)))
 
 -- ---- each task
 
@@ -234,14 +236,14 @@ all_idle_is : (s : State) (b : Bool) → has_by_linux s callback.UpdateIdle ≡ 
 all_idle_is s b e = ap (λ k. idle_as s k) (sym e)
 
 heard_is : (s : State) → has_by_linux s callback.UpdateIdle ≡ true → HearsIdle s
-heard_is s e = go s.policy.callbacks.update_idle refl (both_true (is_by_linux s) (is_some s.policy.callbacks.update_idle) e)
+heard_is s e = go s.policy.callbacks.update_idle refl (and_parts (is_by_linux s) (is_some s.policy.callbacks.update_idle) e)
   where
     go : (o : Option VerifiedProgram) → s.policy.callbacks.update_idle ≡ o → (is_by_linux s ≡ true) × (is_some s.policy.callbacks.update_idle ≡ true) → HearsIdle s
     go None k h = absurd (not_so (is_some s.policy.callbacks.update_idle) (ap (λ o. is_some o) k) h.1)
     go (Some p) k h = HasUpdateIdle p h.0 k
 
 heard_of : (s : State) → HearsIdle s → has_by_linux s callback.UpdateIdle ≡ true
-heard_of s (HasUpdateIdle p e k) = and_true (is_by_linux s) (is_some s.policy.callbacks.update_idle) e (ap (λ o. is_some o) k)
+heard_of s (HasUpdateIdle p e k) = and_from (is_by_linux s) (is_some s.policy.callbacks.update_idle) e (ap (λ o. is_some o) k)
 
 all_are_idle : (s : State) → AreAnswered (calls_after_enables (Ok s)) → AllAreIdle s (all_idle s)
 all_are_idle s = go (has_by_linux s callback.UpdateIdle) refl
@@ -255,7 +257,7 @@ all_are_idle s = go (has_by_linux s callback.UpdateIdle) refl
     go true e all = told (heard_is s e) (after_idles (length s.world.cpus) s) (tells_idle_all (length s.world.cpus) s all)
 
 only_all_are_idle : (s : State) (r : Result State ℤ) → AllAreIdle s r → r ≡ all_idle s
-only_all_are_idle s r (NobodyHears n k) = k ∙ all_idle_is s false (false_from (has_by_linux s callback.UpdateIdle) (λ e. n (heard_is s e)))
+only_all_are_idle s r (NobodyHears n k) = k ∙ all_idle_is s false (false_from_ne_true (has_by_linux s callback.UpdateIdle) (λ e. n (heard_is s e)))
 only_all_are_idle s r (IdleFails n h t k) = k ∙ ap (λ o. unmarked o) (only_tells_idle_all (length s.world.cpus) s (Err n) t) ∙ all_idle_is s true (heard_of s h)
 only_all_are_idle s r (IdleTold u h t k) = k ∙ ap (λ o. unmarked o) (only_tells_idle_all (length s.world.cpus) s (Ok u) t) ∙ all_idle_is s true (heard_of s h)
 

@@ -1,5 +1,6 @@
 -- In each run who is parked is throttled, and a CPU takes no throttled task.
 use Rattle.std.proofs.Common.{◌≡◌, ℕ, zero, suc, ◌+◌, ◌<◌, ◌≤◌, ◌⊎◌, inl, inr, Bool, true, false, ◌==◌, ◌&&◌, ◌||◌, nat_lt, if◌then◌else◌, List, [], ◌∷◌, length, set, get_or, Option, Some, None, is_some, is_none, option_map, Ok, refl, sym, ap, ◌∙◌, subst, arith}
+use Rattle.std.proofs.lemmas.Option.{same_Some}
 use Rattle.std.specs.List.{list_any}
 use Rattle.std.proofs.lemmas.Bool.{cases_eq, cases_lt, and_parts, and_from, lt-ltb, both_ways}
 use Rattle.std.proofs.lemmas.List.{length-set, get_or-set_same, get_or-set_other, get_or_past, set_past}
@@ -263,10 +264,7 @@ parked_are_throttled p tree cpus s events t b at = go (entry_of w.queues t) refl
     go (Some q) e here =
         let sound = (firm_after s events firm).fine.sound in
         let there : t < length w.tasks = omega (arith, waits_known w.queues t (ap (λ (o : Option Entry). is_some o) e), sound.even) in
-        and_from (nat_lt t (length w.tasks)) (limits.is_throttled w.tree t) (lt-ltb t (length w.tasks) there) ((rightly_on s events firm (rightly_first p tree cpus s b)).1 t q e (same_queue q.queue parked_queue here))
-      where
-        same_queue : (x y : ℕ) → Some x ≡ Some y → x ≡ y
-        same_queue x y e = cc
+        and_from (nat_lt t (length w.tasks)) (limits.is_throttled w.tree t) (lt-ltb t (length w.tasks) there) ((rightly_on s events firm (rightly_first p tree cpus s b)).1 t q e (same_Some q.queue parked_queue here))
 
 -- ---- who runs
 
@@ -291,10 +289,7 @@ runs_on o c = record {
     none u e = cc
 
     both : (x : Hierarchy) (t u : ℕ) → limits.is_throttled x t ≡ false → Some t ≡ Some u → limits.is_throttled x u ≡ true → ⊥
-    both x t u free at now = both_ways (limits.is_throttled x t) free (ap (λ k. limits.is_throttled x k) (same t u at) ∙ now)
-      where
-        same : (t u : ℕ) → Some t ≡ Some u → t ≡ u
-        same t u e = cc
+    both x t u free at now = both_ways (limits.is_throttled x t) free (ap (λ k. limits.is_throttled x k) (same_Some t u at) ∙ now)
 
 module _ (n e : ℕ) (s : State) (c : ℕ) (fine : IsFineNow n e e s.world) where
   -- that one ran there before

@@ -1,6 +1,7 @@
 -- The steps of a cycle on the only processor: the front of the line comes to it, the task before goes to the end of the
 -- line, and no task waits any longer for that.
 use Rattle.std.proofs.Common.{◌≡◌, ℕ, ◌<◌, false, ◌&&◌, if◌then◌else◌, length, set, Option, Some, None, is_some, option_map, refl, sym, ap, ◌∙◌, subst, arith, ◌≤◌, ◌==◌, max, get_or, List, nat_lt}
+use Rattle.std.proofs.lemmas.Option.{same_Some}
 use Rattle.std.proofs.lemmas.List.{length-set, get_or-set_same}
 use Rattle.scx_dsq.specs.declared.entries.Entry.{Entry}
 use Rattle.scx_dsq.specs.declared.entries.Rank.TheVariants.{Fifo}
@@ -46,12 +47,9 @@ module _ (slice n m : ℕ) where
   front_is : (w : WorldState) (x : ℕ) → front_of w.queues 0 ≡ Some x → IsTurning slice n m w → IsFrontOf w x
   front_is w x front h = go (entry_of w.queues x) refl (front_in w.queues 0 x front)
     where
-      same : (a b : ℕ) → Some a ≡ Some b → a ≡ b
-      same a b e = cc
-
       go : (o : Option Entry) → entry_of w.queues x ≡ o → option_map (λ (e : Entry). e.queue) o ≡ Some 0 → IsFrontOf w x
       go None is at = absurd (cc)
-      go (Some e) is at = record { entry = e; is = is; here = same e.queue 0 at; within = omega (arith, (place_known w.queues 0 x (front_in w.queues 0 x front)).0, h.bounded.even) }
+      go (Some e) is at = record { entry = e; is = is; here = same_Some e.queue 0 at; within = omega (arith, (place_known w.queues 0 x (front_in w.queues 0 x front)).0, h.bounded.even) }
 
   turning_moved : (w : WorldState) (x : ℕ) → w.call.cpu ≡ 0 → world.is_by_linux w ≡ false → front_of w.queues 0 ≡ Some x → IsTurning slice n m w → IsTurning slice n m (after_local (after_leave w x) 0 x)
   turning_moved w x at plain front h = subst (IsTurning slice n m) (sym (homed_plain v plain x 0)) (record { force = h.force; one = h.one; bounded = moved })
@@ -93,9 +91,6 @@ module _ (slice n m : ℕ) where
   pub turning_started : (w : WorldState) (x : ℕ) → running w 0 ≡ None → front_of w.queues (local_on 0) ≡ Some x → IsTurning slice n m w → IsTurning slice n m (started_at (Some x) w 0)
   turning_started w x idle front h = go (entry_of w.queues x) refl (front_in w.queues (local_on 0) x front)
     where
-      same : (a b : ℕ) → Some a ≡ Some b → a ≡ b
-      same a b e = cc
-
       runs : running (started_at (Some x) w 0) 0 ≡ Some x
       runs = get_or-set_same {A = Option ℕ} w.cpus 0 (Some x) None (omega (arith, h.one))
 
@@ -106,7 +101,7 @@ module _ (slice n m : ℕ) where
       go None is at = absurd (cc)
       go (Some e) is at =
           let free = subst (λ o. IsBounded slice n m w.clock w.tasks o w.queues) idle h.bounded in
-          let on = bounded_started slice n m w.clock w.tasks w.queues x e within is (same e.queue (local_on 0) at) free in
+          let on = bounded_started slice n m w.clock w.tasks w.queues x e within is (same_Some e.queue (local_on 0) at) free in
           let ran = bounded_ran slice n m w.clock m 0 w.tasks (without_task w.queues x) x (on_cpu (task_at w x) 0) (on.most x refl) (omega arith) (omega arith) on in
           record {
             force = h.force;

@@ -1,8 +1,9 @@
 -- One processor and a policy of one line: in a list of events in which each millisecond has a tick and a clock, no task
 -- waits longer than the others' slices.
 use Rattle.std.proofs.Common.{◌≡◌, ℕ, ◌+◌, ◌-◌, ◌*◌, ◌<◌, ◌≤◌, Bool, true, false, ◌==◌, ◌&&◌, ◌||◌, not, max, ◌⊎◌, inl, inr, if◌then◌else◌, List, [], ◌∷◌, length, set, get_or, replicate, position, Option, Some, None, is_some, is_none, option_map, Ok, refl, sym, ap, ◌∙◌, subst, arith, nat_lt}
-use Rattle.std.proofs.lemmas.Bool.{cases_lt, lt-ltb, eq-eqb, ne_eqb}
-use Rattle.std.proofs.lemmas.Bool.Decides.{nat_tests}
+use Rattle.scx_laws.proofs.Waiting.{in_time_of}
+use Rattle.std.proofs.lemmas.Option.{same_Some}
+use Rattle.std.proofs.lemmas.Bool.{cases_lt, lt-ltb, eq-eqb, ne_eqb, and_right, or_right, or_parts}
 use Rattle.std.proofs.lemmas.List.{get_or-set_same, get_or-set_other, get_or_past, get_or_default}
 use Rattle.std.proofs.lemmas.List.Quantifiers.{position-Some}
 use Rattle.std.proofs.lemmas.List.Sums.{sum_by-cons}
@@ -24,12 +25,12 @@ use Rattle.scx_weights.proofs.Counting.{none_below_at}
 use Rattle.scx_weights.proofs.KnownLimits.{none_throttled}
 use Rattle.scx_sched_tasks.specs.declared.task.Task.{Task}
 use Rattle.scx_sched_tasks.specs.Tasks.{no_task, default_slice}
-use Rattle.scx_sched_tasks.specs.Waits.{time_since, is_late, is_overdue}
+use Rattle.scx_sched_tasks.specs.Waits.{time_since, is_overdue}
 use Rattle.scx_sched_world.specs.declared.eject.Eject.{Eject}
 use Rattle.scx_sched_world.specs.First.{first_world}
 use Rattle.scx_sched_world.specs.Ids.{parked_queue, local_on}
 use Rattle.scx_sched_world.specs.World as world
-use Rattle.scx_sched_world.specs.World.{WorldState, task_at, is_this, is_runnable, is_throttled, is_idle, waits, wait, running, cpu_of, first_home, has_one_cpu, default_choice, at_callback, quiet, with_tree}
+use Rattle.scx_sched_world.specs.World.{WorldState, task_at, is_this, is_runnable, is_throttled, is_idle, waits, wait, running, cpu_of, first_home, has_one_cpu, default_choice, at_callback, quiet, with_tree, with_switch}
 use Rattle.scx_sched_world.specs.Tasks.{with_since, tick_ns, counted_down, ran_a_tick, after_wake, after_sleep, after_leave, after_stop, after_enter, after_tick, used_ms, later, begun_periods, after_reweigh, after_own_weight}
 use Rattle.scx_sched_world.specs.Ejecting.{after_charge}
 use Rattle.scx_sched_world.specs.Waits.{first_overdue}
@@ -41,13 +42,13 @@ use Rattle.scx_sched_machine.specs.declared.events.Refused.TheVariants.{RunOver,
 use Rattle.scx_sched_policy.specs.Policy.{PolicyState, program_of}
 use Rattle.scx_sched_machine.specs.Start.{is_bad_shape, is_nowhere, by_policy, first_state}
 use Rattle.scx_sched_machine.specs.Steps.{State, Stepped, with_world, stays, is_by_linux, kicked_if_idle}
-use Rattle.scx_sched_machine.specs.Callbacks.{acting, call_back, answered_by, task_cpu_and_0, task_and_number}
+use Rattle.scx_sched_machine.specs.Callbacks.{acting, call_back, answered_by, task_cpu_and_0}
 use Rattle.scx_sched_machine.specs.Custody.{is_in_custody}
 use Rattle.scx_sched_machine.specs.Put.{put}
 use Rattle.scx_sched_machine.specs.Parking.{let_go_from, let_all_go}
-use Rattle.scx_sched_machine.specs.Cycle.{stopping_called, after_stopping, cycle}
+use Rattle.scx_sched_machine.specs.Cycle.{cycle}
 use Rattle.scx_sched_machine.specs.Events as machine
-use Rattle.scx_sched_machine.specs.Events.{target, insert_or_put, woken, wake_target, comes_to, told_runnable, settle, chosen, ask_target, settle_at_home, select, wake, falls_asleep, looks_after_sleep, leaves_cpu, leaves_queue, sleep_from_cpu, sleep_from_queue, sleep_from, sleep, throttle, ends_slices, expire, use_up, count_down, tick_idle, tick_of, tick, is_tick_time, overdue, eject_if_stalled, watch, timers_and_watchdog, clock, reweigh_by_linux, reweigh, own_step, event_step}
+use Rattle.scx_sched_machine.specs.Events.{target, woken, wake_target, comes_to, told_runnable, settle, chosen, ask_target, settle_at_home, select, wake, falls_asleep, looks_after_sleep, leaves_cpu, leaves_queue, sleep_from_cpu, sleep_from_queue, sleep_from, sleep, throttle, ends_slices, expire, use_up, count_down, tick_idle, tick_of, tick, is_tick_time, overdue, eject_if_stalled, watch, timers_and_watchdog, clock, reweigh_by_linux, reweigh, own_step, event_step}
 use Rattle.scx_sched_machine.proofs.Choices.{keeps_if}
 use Rattle.scx_sched.specs.Once.{runs}
 use Rattle.scx_sched.specs.Ranges.{IsFine}
@@ -62,30 +63,27 @@ use Rattle.scx_sched.proofs.Unchanged.{same_called}
 use Rattle.scx_laws.specs.Runs.{IsBegun, after_events}
 use Rattle.scx_laws.specs.Bounds.{ticks_of, longest_wait, HasTicks, HasTickAndClock, IsPatientLine, WaitsAtMost, StaysInForce}
 use Rattle.scx_laws.proofs.Sound.{IsFirm, firm_first, firm_step, firm_after}
-use Rattle.scx_laws.proofs.Plain.{homed_plain, switch_plain, by_linux_plain, dequeued_plain, heard_plain, chosen_plain, waker_plain, slept_plain, timers_plain, rounds_plain}
+use Rattle.scx_laws.proofs.Plain.{homed_plain, switch_plain, asleep_plain, dequeued_plain, heard_plain, chosen_plain, waker_plain, slept_plain, timers_plain, rounds_plain}
 use Rattle.scx_laws.proofs.Choosing.{chosen_there}
+use Rattle.scx_laws.proofs.Walking.{IsSwitch, by_stop}
 use Rattle.scx_laws.proofs.InLine.{IsInLine, IsKeptInLine, line_end, world_plain, acts_not, nothing_called, zero_there, line_at, put_lined, keeps_line}
-use Rattle.scx_laws.proofs.Beginning.{or_true, line_begins}
+use Rattle.scx_laws.proofs.Beginning.{line_begins}
 use Rattle.scx_laws.proofs.Leaving.{free_first, free_after}
 use Rattle.scx_laws.proofs.Overtaking.{known_there}
 use Rattle.scx_laws.proofs.Counting.{ahead_in}
-use Rattle.scx_laws.proofs.Bounding.{IsBounded, left_of, bounded_left, bounded_later, bounded_unseen, bounded_ran, len_left}
-use Rattle.scx_laws.proofs.Turning.{IsTurning, turning_stopped, turning_put}
-use Rattle.scx_laws.proofs.Cycled.{positive, nonzero, same_task, none_pass, no_entry, len_other, still_there, and_false, empty_other, IsGoing, IsAtWork, IsBetween, going_in, plain_going, cycle_works}
+use Rattle.scx_laws.proofs.Bounding.{IsBounded, left_of, bounded_so, bounded_left, bounded_later, bounded_unseen, bounded_ran, len_left}
+use Rattle.scx_laws.proofs.Turning.{IsTurning, turning_put}
+use Rattle.scx_laws.proofs.Cycled.{positive, nonzero, none_pass, no_entry, len_other, still_there, empty_other, IsGoing, IsAtWork, IsBetween, going_in, plain_going, off_cpu, off_idle, going_off, off_is, cycle_works}
 
 -- ---- with another bound
 
--- if each task of the line waits no longer than that
-bounded_by : (slice n m j clock : ℕ) (tasks : List Task) (run : Option ℕ) (s : QueueState) → ((t : ℕ) (e : Entry) → entry_of s t ≡ Some e → e.queue ≡ 0 → time_since clock (get_or tasks t no_task).since + (ticks_of slice * (ahead_in s e + len_of s (local_on 0)) + left_of tasks run) ≤ j) → IsBounded slice n m clock tasks run s → IsBounded slice n j clock tasks run s
-bounded_by slice n m j clock tasks run s few h = record { even = h.even; many = h.many; off = h.off; here = h.here; fifo = h.fifo; stamped = h.stamped; own = h.own; slices = h.slices; most = h.most; bound = few }
-
 -- that is greater
 turning_more : (slice n m j : ℕ) (w : WorldState) → m ≤ j → IsTurning slice n m w → IsTurning slice n j w
-turning_more slice n m j w l h = record { force = h.force; one = h.one; bounded = bounded_by slice n m j w.clock w.tasks (running w 0) w.queues (λ t e is here. omega (arith, h.bounded.bound t e is here, l)) h.bounded }
+turning_more slice n m j w l h = record { force = h.force; one = h.one; bounded = bounded_so slice n m w.clock w.tasks (running w 0) w.queues j w.clock w.tasks refl h.bounded.slices h.bounded.most (λ t e is here. omega (arith, h.bounded.bound t e is here, l)) h.bounded }
 
 -- or any, if the line is empty
 turning_empty : (slice n m j : ℕ) (w : WorldState) → len_of w.queues 0 ≡ 0 → IsTurning slice n m w → IsTurning slice n j w
-turning_empty slice n m j w none h = record { force = h.force; one = h.one; bounded = bounded_by slice n m j w.clock w.tasks (running w 0) w.queues (λ t e is here. absurd (no_entry w.queues 0 t e none is here)) h.bounded }
+turning_empty slice n m j w none h = record { force = h.force; one = h.one; bounded = bounded_so slice n m w.clock w.tasks (running w 0) w.queues j w.clock w.tasks refl h.bounded.slices h.bounded.most (λ t e is here. absurd (no_entry w.queues 0 t e none is here)) h.bounded }
 
 going_more : (slice n m j : ℕ) (s : State) → m ≤ j → IsGoing slice n m s → IsGoing slice n j s
 going_more slice n m j s l h = going_in slice n j m s s.world h.lined.1 (turning_more slice n m j s.world l h.turning) h.free h.own h
@@ -133,13 +131,8 @@ module _ (slice n l : ℕ) where
       go None e = omega (arith, ap (λ (k : Option ℕ). time_since w.clock k) e)
       go (Some k) e = by_entry (entry_of w.queues t) refl (or_not (waits w t) (sym (has t) ∙ ap (λ (o : Option ℕ). is_some o) e))
 
--- a task that has waited no longer than that isn't late
-not_late : (now limit : ℕ) (o : Option ℕ) → time_since now o ≤ limit → is_late now limit o ≡ false
-not_late now limit None h = refl
-not_late now limit (Some k) h = let is : nat_lt limit (now - k) ≡ false = grind (arith, nat_tests, h) in is
-
 none_overdue : (w : WorldState) (limit : ℕ) → ((t : ℕ) → wait w t ≤ limit) → first_overdue w limit ≡ None
-none_overdue w limit h = no_position (is_overdue w.clock limit) w.tasks (λ k d lt. not_late w.clock limit (get_or w.tasks k d).since (subst (λ (x : Task). time_since w.clock x.since ≤ limit) (sym (get_or_default w.tasks k d no_task lt)) (h k)))
+none_overdue w limit h = no_position (is_overdue w.clock limit) w.tasks (λ k d lt. in_time_of w.clock limit (get_or w.tasks k d).since (subst (λ (x : Task). time_since w.clock x.since ≤ limit) (sym (get_or_default w.tasks k d no_task lt)) (h k)))
 
 -- ---- who runs alone
 
@@ -181,14 +174,11 @@ module _ (slice n : ℕ) (less : slice < 0xffff_ffff_ffff_ffff) where
   abbrev bound : ℕ
   bound = longest_wait n slice
 
-  same_or : (a : Bool) (b : Bool) → a ≡ false → (b && a) ≡ false
-  same_or a b e = ap (λ k. b && k) e ∙ and_false b
-
   tick_busy : (s : State) (r : ℕ) → running s.world 0 ≡ Some r → IsBetween slice n (bound + 1) s → IsBetween slice n bound (count_down s 0 r).state
   unfolding count_down use_up expire ends_slices
   tick_busy s r runs h =
       subst (λ (k : Stepped). IsBetween slice n bound (use_up k.state 0 r).state) (sym (heard_plain u (world_plain u.world (h.0.going.lined.1.rules)) 0 r))
-      (subst (λ b. IsBetween slice n bound (if b then throttle v 0 r else expire v 0 r).state) (sym (same_or (limits.is_throttled v.world.tree r) (nat_lt r (length v.world.tasks)) (none_throttled v.world.tree r free)))
+      (subst (λ b. IsBetween slice n bound (if b then throttle v 0 r else expire v 0 r).state) (sym (and_right (nat_lt r (length v.world.tasks)) (limits.is_throttled v.world.tree r) (none_throttled v.world.tree r free)))
       (go ((task_at v.world r).slice == 0) refl))
     where
       u : State
@@ -241,7 +231,7 @@ module _ (slice n : ℕ) (less : slice < 0xffff_ffff_ffff_ffff) where
 
       go : (b : Bool) → ((task_at v.world r).slice == 0) ≡ b → IsBetween slice n bound (if b && ends_slices v then cycle v 0 (Some r) true else stays v).state
       go true e = subst (λ c. IsBetween slice n bound (if c then cycle v 0 (Some r) true else stays v).state) (sym ends) (cycle_works slice n bound v (Some r) true (omega arith) runs-still g none)
-      go false e = (record { going = g; none = none; busy = λ k y. subst (λ i. 0 < (task_at v.world i).slice) (same_task r k (sym runs-still ∙ y)) (positive (task_at v.world r).slice e); idle = λ y. let bad : Some r ≡ None = sym runs-still ∙ y in absurd (cc) }, still)
+      go false e = (record { going = g; none = none; busy = λ k y. subst (λ i. 0 < (task_at v.world i).slice) (same_Some r k (sym runs-still ∙ y)) (positive (task_at v.world r).slice e); idle = λ y. let bad : Some r ≡ None = sym runs-still ∙ y in absurd (cc) }, still)
 
   tick_works : (s : State) → IsBetween slice n (bound + 1) s → IsBetween slice n bound (tick s 0).state
   unfolding tick tick_idle
@@ -376,7 +366,7 @@ module _ (slice n : ℕ) (less : slice < 0xffff_ffff_ffff_ffff) where
           record {
             going = g;
             none = none;
-            busy = λ j y. subst (λ i. 0 < (task_at final i).slice) (same_task k j (sym (runs-still (Some k) runs) ∙ y)) (omega (arith, slice_same k (apart k runs), h.0.busy k runs));
+            busy = λ j y. subst (λ i. 0 < (task_at final i).slice) (same_Some k j (sym (runs-still (Some k) runs) ∙ y)) (omega (arith, slice_same k (apart k runs), h.0.busy k runs));
             idle = λ y. let bad : Some k ≡ None = sym (runs-still (Some k) runs) ∙ y in absurd (cc);
           },
           still,
@@ -394,60 +384,40 @@ module _ (slice n : ℕ) (less : slice < 0xffff_ffff_ffff_ffff) where
         (keeps_if (λ (w : WorldState). has_quota w.tree.groups ≡ false) (nat_lt t (length s.world.tasks)) _ s.world h.free h.free)
         (keeps_if (λ (w : WorldState). exists w.queues (local_on 0) ≡ true) (nat_lt t (length s.world.tasks)) _ s.world h.own h.own) h
 
-    sleep_from_cpu_works : (s : State) (t : ℕ) → running s.world 0 ≡ Some t → IsBetween slice n m s → IsBetween slice n m (sleep_from_cpu s t 0).state
-    unfolding sleep_from_cpu looks_after_sleep leaves_cpu falls_asleep after_stopping
-    sleep_from_cpu_works s t runs h =
-        subst (λ (w : WorldState). IsBetween slice n m (after_off (with_world s (after_stop w 0 t)))) (sym (switch_plain s.world (world_plain s.world h.0.going.lined.1.rules) 0))
-        (subst (λ (k : State). IsBetween slice n m (after_stop_of k)) (sym stopped_is)
-        (subst (λ (k : Stepped). IsBetween slice n m (looks_after_sleep k.state t 0).state) (sym (by_linux_plain v (world_plain v.world g.lined.1.rules) callback.Quiescent (task_and_number t 1) t 0))
-        (subst (λ (k : State). IsBetween slice n m (cycle k 0 None true).state) (sym (slept_plain v (world_plain v.world g.lined.1.rules) t)) (cycle_works slice n m v None true longest rests g none))))
+    -- once it is off the processor, which looks for another
+    falls_asleep_works : (s : State) (t : ℕ) → entry_of s.world.queues t ≡ None → running s.world 0 ≡ None → IsGoing slice n m s → len_of s.world.queues (local_on 0) ≡ 0 → IsBetween slice n m (looks_after_sleep (falls_asleep s t 0).state t 0).state
+    unfolding looks_after_sleep
+    falls_asleep_works s t free idle h none =
+        subst (λ (k : Stepped). IsBetween slice n m (looks_after_sleep k.state t 0).state) (sym (asleep_plain s t (world_plain v.world g.lined.1.rules) 0))
+        (subst (λ (k : State). IsBetween slice n m (cycle k 0 None true).state) (sym (slept_plain v (world_plain v.world g.lined.1.rules) t)) (cycle_works slice n m v None true longest rests g empty))
       where
-        off : State
-        off = with_world s (after_stop s.world 0 t)
-
-        stopped : State
-        stopped = with_world off (at_callback off.world callback.Stopping t 0)
-
         v : State
-        v = with_world stopped (after_sleep stopped.world t)
-
-        after_stop_of : State → State
-        after_stop_of k = (looks_after_sleep (falls_asleep k t 0).state t 0).state
-
-        after_off : State → State
-        after_off k = after_stop_of (after_stopping k 0 t 0).state
-
-        stopped_is : (after_stopping off 0 t 0).state ≡ stopped
-        stopped_is =
-            ap (λ b. (if b then stays (with_world off (after_charge off.world t)) else stopping_called off 0 t 0).state) (ap (λ (o : Option Eject). is_some o) h.0.going.turning.force)
-            ∙ nothing_called off callback.Stopping (task_and_number t 0) t 0 (acts_not off callback.Stopping h.0.going.lined.0.stops) refl
-
-        idle : running off.world 0 ≡ None
-        idle = get_or-set_same {A = Option ℕ} s.world.cpus 0 None None (omega (arith, h.0.going.turning.one))
-
-        apart : (k : ℕ) → running stopped.world 0 ≡ Some k → k ≡ t → ⊥
-        apart k e same = let bad : None ≡ Some k = sym idle ∙ e in absurd (cc)
-
-        stopped-turning : IsTurning slice n m stopped.world
-        stopped-turning = let y = turning_stopped slice n m s.world t runs h.0.going.turning in record { force = y.force; one = y.one; bounded = y.bounded }
-
-        stopped-going : IsGoing slice n m stopped
-        stopped-going = going_in slice n m m s stopped.world (line_at off.world callback.Stopping t 0 ((keeps_line slice).stopped s 0 t h.0.going.lined).1) stopped-turning h.0.going.free h.0.going.own h.0.going
+        v = with_world s (after_sleep s.world t)
 
         g : IsGoing slice n m v
-        g = asleep_going stopped t (h.0.going.turning.bounded.off t runs).1 apart stopped-going
+        g = asleep_going s t free (λ k e same. let bad : None ≡ Some k = sym idle ∙ e in absurd (cc)) h
 
         rests : running v.world 0 ≡ None
-        rests = keeps_if (λ (w : WorldState). running w 0 ≡ None) (nat_lt t (length stopped.world.tasks)) _ stopped.world idle idle
+        rests = keeps_if (λ (w : WorldState). running w 0 ≡ None) (nat_lt t (length s.world.tasks)) _ s.world idle idle
 
-        none : len_of v.world.queues (local_on 0) ≡ 0
-        none = keeps_if (λ (w : WorldState). len_of w.queues (local_on 0) ≡ 0) (nat_lt t (length stopped.world.tasks)) _ stopped.world h.0.none h.0.none
+        empty : len_of v.world.queues (local_on 0) ≡ 0
+        empty = keeps_if (λ (w : WorldState). len_of w.queues (local_on 0) ≡ 0) (nat_lt t (length s.world.tasks)) _ s.world none none
+
+    sleep_from_cpu_works : (s : State) (t : ℕ) → running s.world 0 ≡ Some t → IsBetween slice n m s → IsBetween slice n m (sleep_from_cpu s t 0).state
+    unfolding sleep_from_cpu leaves_cpu
+    sleep_from_cpu_works s t runs h =
+        by_stop (λ (r : Stepped). Works r.state) (with_world s (after_stop (with_switch s.world 0) 0 t)) 0 t 0
+        (subst (λ (w : WorldState). (r : Stepped) → IsSwitch (with_world s (after_stop w 0 t)) t 0 (after_charge (after_stop w 0 t) t) r → Works r.state) (sym (switch_plain s.world (world_plain s.world h.0.going.lined.1.rules) 0))
+        (off_is slice n m Works s t h.0.going (λ b. falls_asleep_works (off_cpu slice n m s t b) t (h.0.going.turning.bounded.off t runs).1 (off_idle slice n m s t h.0.going) (going_off slice n m s t b runs h.0.going) h.0.none)))
+      where
+        Works : State → Type 0
+        Works k = IsBetween slice n m (looks_after_sleep (falls_asleep k t 0).state t 0).state
 
     sleep_from_queue_works : (s : State) (t c : ℕ) → t < length s.world.tasks → ((k : ℕ) → running s.world 0 ≡ Some k → k ≡ t → ⊥) → IsBetween slice n m s → IsBetween slice n m (sleep_from_queue s t c).state
-    unfolding sleep_from_queue leaves_queue falls_asleep
+    unfolding sleep_from_queue leaves_queue
     sleep_from_queue_works s t c within apart h =
         subst (λ (k : State). IsBetween slice n m (falls_asleep k t c).state) (sym (dequeued_plain u plain (is_in_custody s.world t) t c 1))
-        (subst (λ (k : Stepped). IsBetween slice n m k.state) (sym (by_linux_plain v (world_plain v.world g.lined.1.rules) callback.Quiescent (task_and_number t 1) t c))
+        (subst (λ (k : Stepped). IsBetween slice n m k.state) (sym (asleep_plain u t (world_plain v.world g.lined.1.rules) c))
         (record { going = g; none = none; busy = busy; idle = idle }, still))
       where
         u : State
@@ -640,7 +610,7 @@ module _ (slice n : ℕ) (less : slice < 0xffff_ffff_ffff_ffff) where
       ticks : (d : ℕ) → d < length s.state.world.cpus → d ≡ c → IsBetween slice n (bound_if ticked) s.state → IsBetween slice n (bound_if (ticked || c == 0)) (event_step s.state (Tick c)).state
       ticks d l same x =
           let zero_is : c ≡ 0 = omega (arith, l, same, x.0.going.turning.one) in
-          let flag : (ticked || c == 0) ≡ true = ap (λ b. ticked || b) (eq-eqb c 0 zero_is) ∙ or_true ticked in
+          let flag : (ticked || c == 0) ≡ true = ap (λ b. ticked || b) (eq-eqb c 0 zero_is) ∙ or_right ticked true refl in
           let y = tick_works s.state (between_more slice n (bound_if ticked) (bound + 1) s.state (at_most_one_more ticked) x) in
           subst (λ b. IsBetween slice n (bound_if b) (event_step s.state (Tick c)).state) (sym flag) (subst (λ k. IsBetween slice n bound (event_step s.state (Tick k)).state) (sym zero_is) (after_own bound s.state (Tick 0) y))
 
@@ -685,15 +655,11 @@ inactive_first tree cpus shape flags t = go (cases_lt t (length tree.homes))
     none false true c e = absurd (cc)
     none true b c e = absurd (cc)
 
-    neither : (a b : Bool) → (a || b) ≡ false → a ≡ false
-    neither true b e = absurd (cc)
-    neither false b e = refl
-
     test : ℕ → Bool
     test k = is_active_task tree k || is_nowhere tree cpus k
 
     go : (t < length tree.homes) ⊎ (length tree.homes ≤ t) → is_active_task tree t ≡ false
-    go (inl l) = neither (is_active_task tree t) (is_nowhere tree cpus t) (none_below_at (length tree.homes) t test (none (nat_lt cpus 1) (nat_lt 64 cpus) (any_below (length tree.homes) test) shape) l)
+    go (inl l) = (or_parts (is_active_task tree t) (is_nowhere tree cpus t) (none_below_at (length tree.homes) t test (none (nat_lt cpus 1) (nat_lt 64 cpus) (any_below (length tree.homes) test) shape) l)).0
     go (inr past) = get_or_past {X = Bool} tree.active t false (omega (arith, past, flags))
 
 -- the weights of the first state are those that it begins with

@@ -1,5 +1,6 @@
 -- Whom the watchdog finds is the first who has waited for too long.
 use Rattle.std.proofs.Common.{◌≡◌, ℕ, ◌<◌, ◌≤◌, ◌⊎◌, inl, inr, Bool, true, false, nat_lt, length, List, Option, Some, None, cond, refl, ◌∙◌, ap, arith}
+use Rattle.scx_sched.proofs.Timely.{not_late}
 use Rattle.std.specs.List.{position, position_or_len}
 use Rattle.std.proofs.lemmas.Bool.{cases_lt}
 use Rattle.std.proofs.lemmas.Bool.Decides.{nat_tests}
@@ -17,15 +18,11 @@ late : (now limit : ℕ) (o : Option ℕ) → is_late now limit o ≡ true → l
 late now limit None e = absurd (cc)
 late now limit (Some n) e = grind (arith, nat_tests, e)
 
-in_time : (now limit : ℕ) (o : Option ℕ) → is_late now limit o ≡ false → time_since now o ≤ limit
-in_time now limit None e = omega arith
-in_time now limit (Some n) e = grind (arith, nat_tests, e)
-
 late_of : (now limit : ℕ) (o : Option ℕ) → limit < time_since now o → is_late now limit o ≡ true
 late_of now limit None l = absurd (omega (arith, l))
 late_of now limit (Some n) l = grind (arith, nat_tests, l)
 
-in_time_of : (now limit : ℕ) (o : Option ℕ) → time_since now o ≤ limit → is_late now limit o ≡ false
+pub in_time_of : (now limit : ℕ) (o : Option ℕ) → time_since now o ≤ limit → is_late now limit o ≡ false
 in_time_of now limit None l = refl
 in_time_of now limit (Some n) l = grind (arith, nat_tests, l)
 
@@ -53,13 +50,13 @@ past_end p xs = go (cases_lt (position_or_len p xs) (length xs))
 pub is_first : (w : WorldState) (limit t : ℕ) → first_overdue w limit ≡ Some t → IsFirstOverdue w limit t
 is_first w limit t e =
     let f = position-Some (is_overdue w.clock limit) w.tasks t no_task e in
-    record { known = f.0; over = late w.clock limit (task_at w t).since f.1; least = λ u l. in_time w.clock limit (task_at w u).since (f.2 u l) }
+    record { known = f.0; over = late w.clock limit (task_at w t).since f.1; least = λ u l. not_late w.clock limit (task_at w u).since (f.2 u l) }
 
 -- where it finds nobody, nobody is
 pub nobody_late : (w : WorldState) (limit : ℕ) → first_overdue w limit ≡ None → (t : ℕ) → t < length w.tasks → wait w t ≤ limit
 nobody_late w limit e t l =
     let end = past_end (is_overdue w.clock limit) w.tasks e in
-    in_time w.clock limit (task_at w t).since (fails_before_first (is_overdue w.clock limit) w.tasks t no_task (omega (arith, l, end)))
+    not_late w.clock limit (task_at w t).since (fails_before_first (is_overdue w.clock limit) w.tasks t no_task (omega (arith, l, end)))
 
 -- and so it finds the first one
 pub only_first : (w : WorldState) (limit t : ℕ) → IsFirstOverdue w limit t → first_overdue w limit ≡ Some t

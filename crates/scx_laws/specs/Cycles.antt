@@ -21,7 +21,7 @@ use Rattle.scx_sched_machine.specs.Steps.{State, Stepped, with_world, stays, aft
 use Rattle.scx_sched_machine.specs.Callbacks.{call_back, noted_by, one_task, task_and_number, two_numbers, cpu_and_task}
 use Rattle.scx_sched_machine.specs.Cycle.{told_of, stopping_called}
 use Rattle.scx_sched_machine.specs.Parking.{FrontMayRun}
-use Rattle.scx_laws.specs.Differences.{Homes, BeginsCycle, EndsCycle, CallsIfThere, HearsIdle, KeepsSlice, GivesWay, Switches, IsToAsk, GivesUp}
+use Rattle.scx_laws.specs.Differences.{Homes, BeginsSwitch, BeginsCycle, EndsCycle, CallsIfThere, HearsIdle, KeepsSlice, GivesWay, Switches, IsToAsk, GivesUp}
 use Rattle.scx_laws.specs.BoundTasks.{IsNextFor}
 use Rattle.scx_laws.specs.Custody.{gone_out, TellsLeft}
 
@@ -70,6 +70,14 @@ pub data HasStarted (s : State) (c t : ℕ) (r : Stepped) : Type 0 where
   Catches_up : (x : Eject)
       → s.world.ejected ≡ Some x → r ≡ silent s (after_catch_up s.world t) → HasStarted s c t r
 
+-- where a task that runs is changed, the policy hears that it stops
+abbrev pub HearsStop : State → ℕ → ℕ → Stepped → Type 0
+HearsStop s c t r = CallsIfThere s callback.Stopping (task_and_number t 0) t c r
+
+-- and that it runs again
+abbrev pub HearsRun : State → ℕ → ℕ → Stepped → Type 0
+HearsRun s c t r = CallsIfThere s callback.Running (one_task t) t c r
+
 -- the state in which a task is off its processor, and waits from now on
 abbrev pub gone_off : State → ℕ → ℕ → State
 gone_off s c t = with_world s (after_stop s.world c t)
@@ -81,6 +89,14 @@ gone_on s c t = with_world s (started_at (Some t) s.world c)
 -- the state in which a task, which was picked, is on that processor
 abbrev pub picked_on : State → ℕ → ℕ → State
 picked_on s c t = with_world s (after_run s.world c t)
+
+-- a task that runs leaves its processor; the number says whether it stays runnable
+pub record LeavesCpu (s : State) (c t runnable : ℕ) (r : Stepped) : Type 0 where
+  pub switching : WorldState
+  pub switches : BeginsSwitch s.world c switching
+  pub stopped : Stepped
+  pub stops : HasStopped (gone_off (with_world s switching) c t) c t runnable stopped
+  pub all : r ≡ after (note_now s.world (note.Stop t c) ∷ []) stopped
 
 -- ---- put
 

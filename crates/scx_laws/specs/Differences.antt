@@ -74,12 +74,15 @@ pub data IsHere (w : WorldState) (n : ℕ) : Type 0 where
   WokenFrom : (c : ℕ) → w.passing.waker ≡ Some c → n ≡ c → IsHere w n
   AtHand : w.passing.waker ≡ None → n ≡ w.call.cpu → IsHere w n
 
+-- the state that comes next by Linux rules alone; by plain rules the state stays
+pub data NextByLinux (s next v : State) : Type 0 where
+  StaysByPlain : is_by_linux s ≡ false → v ≡ s → NextByLinux s next v
+  BecomesNext : is_by_linux s ≡ true → v ≡ next → NextByLinux s next v
+
 -- callbacks of a wake run on the processor on which the task was last
-pub data TellsWaker (s : State) (t : ℕ) (v : State) : Type 0 where
-  NoWaker : is_by_linux s ≡ false → v ≡ s → TellsWaker s t v
-  HasWaker : is_by_linux s ≡ true
-      → v ≡ with_world s (with_waker s.world (Some (task_at s.world t).prev_cpu))
-      → TellsWaker s t v
+abbrev pub TellsWaker : State → ℕ → State → Type 0
+TellsWaker s t v =
+    NextByLinux s (with_world s (with_waker s.world (Some (task_at s.world t).prev_cpu))) v
 
 -- ---- callbacks by Linux rules
 
@@ -145,9 +148,8 @@ pub data EndsSlices (s : State) : Type 0 where
 -- ---- dispatch
 
 -- dispatch is told of the task that goes to sleep (ext.c, `prev_on_sch`)
-pub data TellsSleep (s : State) (t : ℕ) (v : State) : Type 0 where
-  TellsNobody : is_by_linux s ≡ false → v ≡ s → TellsSleep s t v
-  Tells : is_by_linux s ≡ true → v ≡ with_world s (with_slept s.world t) → TellsSleep s t v
+abbrev pub TellsSleep : State → ℕ → State → Type 0
+TellsSleep s t v = NextByLinux s (with_world s (with_slept s.world t)) v
 
 -- dispatch is to be asked once more: it moved a task, the local queue is empty still, and no task
 -- keeps the processor

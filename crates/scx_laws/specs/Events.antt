@@ -16,12 +16,12 @@ use Rattle.scx_sched_world.specs.Waits.{IsFirstOverdue}
 use Rattle.scx_sched_machine.specs.declared.events.Event.{Event}
 use Rattle.scx_sched_machine.specs.declared.events.Event.TheVariants.{Wake, Sleep, Tick, Clock, SetWeight, SetTaskWeight}
 use Rattle.scx_sched_machine.specs.Steps.{State, Stepped, with_world, stays, after, one_after_other, is_by_linux}
-use Rattle.scx_sched_machine.specs.Callbacks.{call_back, answered_by, one_task, task_cpu_and_0, task_and_number}
-use Rattle.scx_laws.specs.Differences.{Homes, BeginsSwitch, TellsWaker, CallsIfThere, HearsTick, EndsSlices, TellsSleep, LooksIfIdle}
+use Rattle.scx_sched_machine.specs.Callbacks.{call_back, answered_by, task_cpu_and_0, task_and_number}
+use Rattle.scx_laws.specs.Differences.{Homes, TellsWaker, CallsIfThere, HearsTick, EndsSlices, TellsSleep, LooksIfIdle}
 use Rattle.scx_laws.specs.BoundTasks.{IsAllowed, IsFirstHome, HasOneCpu}
 use Rattle.scx_laws.specs.Helpers.{IsChoice, IsDefault, with_claim}
 use Rattle.scx_laws.specs.Ejections.{Ejects}
-use Rattle.scx_laws.specs.Cycles.{noting, silent, entering, gone_off, HasStopped, Puts, parking, Cycles}
+use Rattle.scx_laws.specs.Cycles.{noting, silent, entering, HearsStop, HearsRun, LeavesCpu, Puts, parking, Cycles}
 use Rattle.scx_laws.specs.Custody.{LeavesQueue}
 use Rattle.scx_laws.specs.Timers.{FiresAll}
 use Rattle.scx_laws.specs.Rounds.{IsFollowed}
@@ -136,14 +136,6 @@ pub record Wakes (s : State) (t : ℕ) (r : Stepped) : Type 0 where
       (one_after_other selected (one_after_other told (one_after_other settled roused)))
 
 -- ---- sleep
-
--- a task that runs leaves its processor; the number says whether it stays runnable
-pub record LeavesCpu (s : State) (c t runnable : ℕ) (r : Stepped) : Type 0 where
-  pub switching : WorldState
-  pub switches : BeginsSwitch s.world c switching
-  pub stopped : Stepped
-  pub stops : HasStopped (gone_off (with_world s switching) c t) c t runnable stopped
-  pub all : r ≡ after (note_now s.world (note.Stop t c) ∷ []) stopped
 
 -- the state in which a task sleeps
 abbrev pub asleep : State → ℕ → State
@@ -291,9 +283,9 @@ pub record ChangesWeight (s : State) (t c x : ℕ) (r : Stepped) : Type 0 where
 pub data Reweighs (s : State) (t x : ℕ) (r : Stepped) : Type 0 where
   WhileItRuns : (c : ℕ) (stopped changed resumed : Stepped)
       → cpu_of s.world t ≡ Some c
-      → CallsIfThere s callback.Stopping (task_and_number t 0) t c stopped
+      → HearsStop s c t stopped
       → ChangesWeight stopped.state t c x changed
-      → CallsIfThere changed.state callback.Running (one_task t) t c resumed
+      → HearsRun changed.state c t resumed
       → r ≡ one_after_other stopped (one_after_other changed resumed)
       → Reweighs s t x r
   WhileItWaits : (left changed put : Stepped)

@@ -157,15 +157,20 @@ abbrev pub IsStall : Eject → Type 0
 IsStall (cause.Stall t clock) = ⊤
 IsStall x = ⊥
 
+-- a machine of such a policy before any event, by plain rules
+pub record IsLineBegun (slice : ℕ) (p : PolicyState) (tree : Hierarchy) (cpus : ℕ) (s : SimState)
+    : Type 0 where
+  pub line : IsLine slice p
+  pub rules : p.rules ≡ Plain
+  pub begun : IsBegun p tree cpus s
+
 -- by plain rules no callback of a policy of one line has a fault or calls `exit`, whatever happens:
 -- it is put out of force for a task that waited too long, and for nothing else
 abbrev pub OnlyWaitsEject : Type 0
 OnlyWaitsEject =
     (slice : ℕ) (p : PolicyState) (tree : Hierarchy) (cpus : ℕ) (s : SimState)
     (events : List Event) (x : Eject)
-    → IsLine slice p
-    → p.rules ≡ Plain
-    → IsBegun p tree cpus s
+    → IsLineBegun slice p tree cpus s
     → (after_events s events).state.world.ejected ≡ Some x
     → IsStall x
 
@@ -175,10 +180,8 @@ abbrev pub IdlesUnlessLate : Type 0
 IdlesUnlessLate =
     (slice : ℕ) (p : PolicyState) (tree : Hierarchy) (cpus : ℕ) (s : SimState)
     (events : List Event) (v : Event) (c : ℕ)
-    → IsLine slice p
-    → p.rules ≡ Plain
+    → IsLineBegun slice p tree cpus s
     → has_quota tree.groups ≡ false
-    → IsBegun p tree cpus s
     → refusal (after_events s events) v ≡ None
     → looks (after_events s events).state.world v ≡ Some c
     → running (after_event (after_events s events) v).state.world c ≡ None
@@ -209,9 +212,7 @@ abbrev pub NobodyOvertakes : Type 0
 NobodyOvertakes =
     (slice : ℕ) (p : PolicyState) (tree : Hierarchy) (cpus : ℕ) (s : SimState)
     (events more : List Event) (t u : ℕ) (first second : Entry)
-    → IsLine slice p
-    → p.rules ≡ Plain
-    → IsBegun p tree cpus s
+    → IsLineBegun slice p tree cpus s
     → IsAheadOf (after_events s events).state.world t u first second
     → StaysAwake u more
     → (after_events (after_events s events) more).state.world.ejected ≡ None
@@ -223,9 +224,7 @@ abbrev pub NobodyCutsIn : Type 0
 NobodyCutsIn =
     (slice : ℕ) (p : PolicyState) (tree : Hierarchy) (cpus : ℕ) (s : SimState)
     (events more : List Event) (t u : ℕ) (mine other : Entry)
-    → IsLine slice p
-    → p.rules ≡ Plain
-    → IsBegun p tree cpus s
+    → IsLineBegun slice p tree cpus s
     → entry_of (after_events s events).state.world.queues t ≡ Some mine
     → mine.queue ≡ 0
     → (after_events (after_events s events) more).state.world.ejected ≡ None
@@ -241,9 +240,7 @@ abbrev pub OnlyFewerAhead : Type 0
 OnlyFewerAhead =
     (slice : ℕ) (p : PolicyState) (tree : Hierarchy) (cpus : ℕ) (s : SimState)
     (events more : List Event) (t : ℕ) (mine : Entry)
-    → IsLine slice p
-    → p.rules ≡ Plain
-    → IsBegun p tree cpus s
+    → IsLineBegun slice p tree cpus s
     → entry_of (after_events s events).state.world.queues t ≡ Some mine
     → mine.queue ≡ 0
     → (after_events (after_events s events) more).state.world.ejected ≡ None

@@ -57,12 +57,15 @@ pub record IsBlank (p : PolicyState) (tree : Hierarchy) (cpus : ℕ) (s : State)
 
 -- ---- init
 
--- a fault or an exit goes before an answer, and any answer but 0 ends it
+-- a callback fails by a fault or an exit, which goes before an answer, or where it is stuck
+pub data FailsBy (e : Ending WorldState) : ℤ → Type 0 where
+  HasFault : (f : Fault) → e.outside.call.cause ≡ Some (reason.Fault f) → FailsBy e fault_answer
+  HasExit : (n : ℤ) → e.outside.call.cause ≡ Some (reason.Exit n) → FailsBy e n
+  HasStuck : e.outside.call.cause ≡ None → e.answer ≡ None → FailsBy e fault_answer
+
+-- it fails, or any answer but 0 ends it
 pub data Judged (s : State) (e : Ending WorldState) (r : Result State ℤ) : Type 0 where
-  Faults : (f : Fault)
-      → e.outside.call.cause ≡ Some (reason.Fault f) → r ≡ Err fault_answer → Judged s e r
-  Exits : (n : ℤ) → e.outside.call.cause ≡ Some (reason.Exit n) → r ≡ Err n → Judged s e r
-  Stuck : e.outside.call.cause ≡ None → e.answer ≡ None → r ≡ Err fault_answer → Judged s e r
+  FailsFirst : (n : ℤ) → FailsBy e n → r ≡ Err n → Judged s e r
   Refuses : (n : ℕ)
       → e.outside.call.cause ≡ None → e.answer ≡ Some n → 0 < n → r ≡ Err (cast_signed w64 n)
       → Judged s e r
@@ -78,12 +81,9 @@ pub record Initializes (s : State) (r : Result State ℤ) : Type 0 where
 
 -- ---- callbacks that answer nothing
 
--- after one the machine goes on, or it fails by a fault or an exit
+-- after one the machine goes on, or it fails
 pub data Passes (s : State) (e : Ending WorldState) (r : Result State ℤ) : Type 0 where
-  HasFault : (f : Fault)
-      → e.outside.call.cause ≡ Some (reason.Fault f) → r ≡ Err fault_answer → Passes s e r
-  HasExit : (n : ℤ) → e.outside.call.cause ≡ Some (reason.Exit n) → r ≡ Err n → Passes s e r
-  HasStuck : e.outside.call.cause ≡ None → e.answer ≡ None → r ≡ Err fault_answer → Passes s e r
+  Fails : (n : ℤ) → FailsBy e n → r ≡ Err n → Passes s e r
   Answers : (n : ℕ)
       → e.outside.call.cause ≡ None → e.answer ≡ Some n → r ≡ Ok (after_callback s.policy e)
       → Passes s e r

@@ -10,16 +10,14 @@ use Rattle.scx_asm_text.specs.Tokens.{class_length, tokens_from}
 use Rattle.scx_asm.specs.FirstPass.{first_pass}
 use Rattle.scx_asm.specs.Reading.{second_pass, read_text}
 use Rattle.scx_asm.specs.Resolving.{find}
-use Rattle.scx_vm.specs.Arguments.{program_arguments}
-use Rattle.scx_vm.specs.Host.{answer_to, after_query}
 use Rattle.scx_vm.specs.Programs.{VerifiedProgram}
 use Rattle.scx_vm.specs.declared.arguments.Args.{Args}
 use Rattle.scx_sched_world.specs.World.{WorldState}
-use Rattle.scx_sched_world.specs.Helpers.{after_move, after_insert, world_functions}
+use Rattle.scx_sched_world.specs.Helpers.{after_move, after_insert}
 use Rattle.scx_sched_world.specs.Inserts.{insert_in_order}
 use Rattle.scx_sched_machine.specs.Callbacks.{call_ending, task_and_number}
 use Rattle.scx_laws.specs.Texts.{Says}
-use Rattle.scx_laws.proofs.Moving.{last_served}
+use Rattle.scx_laws.proofs.Moving.{runs, called as code_called, answers, last_served}
 use Rattle.scx_laws_template.specs.Own.{queue, slice, enqueue_text, dispatch_text, TasksAreQueued, QueueIsServed}
 
 -- the instructions of what was read
@@ -27,14 +25,9 @@ abbrev read : {E : Type 0} → Result Code E → Code
 read (Ok code) = code
 read (Err e) = []
 
--- a program is run as the world's callback
-abbrev runs : Callback → Code → Args → Maps → WorldState → Ending WorldState
-runs b code a maps w = run_of (answer_to world_functions) (after_query world_functions) b code (program_arguments a) maps w
-
--- that of a text is
+-- the run of a program of that text
 called : (text : List ℕ) (p : VerifiedProgram) (b : Callback) (a : Args) (maps : Maps) (w : WorldState) → Says text p.code → call_ending (Some p) b a maps w ≡ runs b (read (read_text text)) a maps w
-unfolding call_ending
-called text p b a maps w said = ap (λ (k : Code). runs b k a maps w) (sym (ap read said))
+called text p b a maps w said = code_called b p.code p a maps w refl ∙ ap (λ (k : Code). runs b k a maps w) (sym (ap read said))
 
 -- ---- enqueue
 
@@ -48,14 +41,10 @@ tasks_queued p t flags maps w said =
 
 -- ---- dispatch
 
--- what it comes to that leaves that world
-abbrev left_with : Maps → WorldState → Ending WorldState
-left_with maps w = record { answer = Some 0; maps = maps; outside = w }
-
-run_dispatch : (a : Args) (maps : Maps) (w : WorldState) → runs callback.Dispatch (read (read_text dispatch_text)) a maps w ≡ left_with maps (after_move w queue)
+run_dispatch : (a : Args) (maps : Maps) (w : WorldState) → runs callback.Dispatch (read (read_text dispatch_text)) a maps w ≡ answers 0 maps (after_move w queue)
 unfolding run_of first_pass second_pass find tokens_from first_of class_length
 run_dispatch a maps w = refl
 
 pub queue_served : QueueIsServed
 queue_served p said a maps w =
-    called dispatch_text p callback.Dispatch a maps w said ∙ (run_dispatch a maps w ∙ ap (left_with maps) (last_served w queue))
+    called dispatch_text p callback.Dispatch a maps w said ∙ (run_dispatch a maps w ∙ ap (λ v. answers 0 maps v) (last_served w queue))
