@@ -9,14 +9,20 @@ use Rattle.scx_isa_semantics.specs.declared.instructions.Insn.TheVariants.{Call}
 use Rattle.scx_isa_semantics.specs.Code.{at}
 use Rattle.scx_isa_semantics.specs.HostTables.{helper_at}
 use Rattle.scx_vm.specs.Programs.{VerifiedProgram}
-use Rattle.scx_sched_policy.specs.Policy.{program_of}
+use Rattle.scx_sched_policy.specs.Policy.{PolicyState, program_of}
 use Rattle.scx_explore_findings.specs.Delayed.{is_clock, reads_clock, IsClockless}
 use Rattle.scx_explore_findings.specs.FifoOnly.{is_by_vtime, inserts_by_vtime, InsertsInOrder}
-use Rattle.scx_explore_findings.specs.WholeForms.{is_random, draws, DrawsNone}
+use Rattle.scx_explore_findings.specs.WholeForms.{is_random, draws, DrawsNone, IsWholeBy}
+use Rattle.scx_explore_findings.specs.Asked.{AskAnyhow}
+use Rattle.scx_explore_findings.specs.IdleSlices.{TellsNoSlice}
+use Rattle.scx_explore_findings.specs.Unread.{ReadsNone}
+use Rattle.scx_explore_states.specs.declared.map_words.MapWords.{MapWords}
+use Rattle.scx_explore_states.specs.declared.map_words.MapWords.TheVariants.{Whole}
+use Rattle.scx_isa_semantics.specs.Effects.{Query}
 use Rattle.scx_explore_bounds.specs.declared.uses.Uses.{Uses}
 use Rattle.scx_explore_bounds.specs.Forms.{tells_idle_slices, form_of}
 use Rattle.scx_explore_bounds.specs.Uses.{is_helper, is_call}
-use Rattle.scx_explore_audit.specs.Computed.{IfNoMore, left_out_by, ComputedFormsAreWhole}
+use Rattle.scx_explore_audit.specs.Computed.{IfNoMore, DoNoMore, left_out_by, ComputedFormsAreWhole}
 
 -- ---- calls
 
@@ -59,7 +65,7 @@ in_order : (u : Uses) → u.vtime_inserts ≡ false → (o : Option VerifiedProg
 in_order u e None d = tt
 in_order u e (Some q) d = λ slot. (calls_same (at q.code slot)).1 ∙ d.vtime_inserts e slot
 
-apart : false ≡ true → ⊥
+pub apart : false ≡ true → ⊥
 apart e = absurd (cc)
 
 shown : (b : Bool) → not b ≡ false → b ≡ true
@@ -74,8 +80,10 @@ left_out : (b : Bool) → not b ≡ true → b ≡ false
 left_out false e = refl
 left_out true e = absurd (apart e)
 
-pub computed_forms_are_whole : ComputedFormsAreWhole
-computed_forms_are_whole p u none exact unread slices = record {
+-- what is asked being said in that way, and with any words of maps
+pub computed_by : (Ask : (Query → Type 0) → PolicyState → Type 0) (p : PolicyState) (u : Uses) (words : MapWords) → DoNoMore u p → p.tick_ms ≡ 0 → Ask (ReadsNone (left_out_by (form_of u true))) p → (tells_idle_slices u ≡ false → Ask TellsNoSlice p)
+    → IsWholeBy Ask p (record (form_of u true) { map_words = words })
+computed_by Ask p u words none exact unread slices = record {
   clock = kept_or u.clock (λ e. record { clockless = λ b. clockless u e (program_of p b) (none b); exact = exact });
   pushes = refl;
   waits = refl;
@@ -90,3 +98,6 @@ computed_forms_are_whole p u none exact unread slices = record {
   random = kept_or u.random (λ e b. undrawn u e (program_of p b) (none b));
   names = refl;
 }
+
+pub computed_forms_are_whole : ComputedFormsAreWhole
+computed_forms_are_whole p u none exact unread slices = computed_by AskAnyhow p u Whole none exact unread slices

@@ -12,7 +12,7 @@ use Rattle.scx_explore_states.specs.Written.{IsWritten}
 use Rattle.scx_explore_audit.specs.declared.table.Moves.{Moves}
 use Rattle.scx_explore_audit.specs.declared.table.Moves.TheVariants.{Events}
 use Rattle.scx_explore_audit.specs.Claims.{IsTried, IsMove, ShowsNone, ShowsNoneAtFirst, list_of}
-use Rattle.scx_explore_audit.specs.Closed.{Claim, IsReached, IsMatched, IsSurvived, IsWithin, Respects, IsMet, LeadsBack, IsDone, IsClosed, depth_at}
+use Rattle.scx_explore_audit.specs.Closed.{Claim, IsReached, IsMatched, IsSurvived, IsWithin, CallsRunAlong, RespectsRuns, IsMet, LeadsBack, IsDone, IsClosed, depth_at}
 use Rattle.scx_explore_audit.specs.Laws.{ClosedTablesCover, ListsAreOfEvents}
 use Rattle.scx_explore_audit.proofs.Skipping.{NoneAtFirst, none_past}
 
@@ -87,6 +87,11 @@ leads_shows c n s (e ∷ es) leads = λ fine. (
   λ force. leads_shows c n (after_event s e) es ((leads fine).1 force),
 )
 
+-- and its callbacks run as they were verified
+leads_run : (c : Claim) (n : ℕ) (s : SimState) (es : List Event) → LeadsBack c n s es → CallsRunAlong s es
+leads_run c n s [] leads = tt
+leads_run c n s (e ∷ es) leads = λ fine. ((leads fine).2, λ force. leads_run c n (after_event s e) es ((leads fine).1 force))
+
 -- and where it is survived, the state behind it is kept
 leads_met : (c : Claim) (n : ℕ) (s : SimState) (es : List Event) → LeadsBack c n s es → IsSurvived s es → IsWithin c.limit n → IsMet c n (stepped_all s es)
 leads_met c n s [] leads survived within = leads within
@@ -146,7 +151,7 @@ met_as c d n s t few written there within =
       written = written (state_at c.kept m.number) m.written;
     }
 
-covers : (c : Claim) (root : SimState) (room : ℕ) → Respects c.form c.ids c.moves c.sorts root room → IsClosed c root room → (list : List (List Event)) (n : ℕ) (s : SimState) → IsReached c.moves root s → (IsWithin c.limit n → IsMet c n s) → All (IsMove c.moves root) list → IfSome c.limit (λ most. n + length list ≤ most) → ShowsNoneAtFirst c.sorts s (list_of list)
+covers : (c : Claim) (root : SimState) (room : ℕ) → RespectsRuns c.form c.ids c.moves c.sorts root room → IsClosed c root room → (list : List (List Event)) (n : ℕ) (s : SimState) → IsReached c.moves root s → (IsWithin c.limit n → IsMet c n s) → All (IsMove c.moves root) list → IfSome c.limit (λ most. n + length list ≤ most) → ShowsNoneAtFirst c.sorts s (list_of list)
 covers c root room respects closed [] n s reached met moves few = tt
 covers c root room respects closed (es ∷ list) n s reached met moves few =
     let within : IsWithin c.limit n = within_more c.limit n (length list) few in
@@ -156,7 +161,7 @@ covers c root room respects closed (es ∷ list) n s reached met moves few =
     let done : IsDone c root room k = closed.each k m.there (within_fewer c.limit d n m.depth within) in
     let move : IsMove c.moves root es = All-head (IsMove c.moves root) es list moves in
     let other : IsMatched c.form c.ids c.moves c.sorts root s done.state es =
-    respects (state_at c.kept k) s done.state es reached done.near m.written done.written move in
+    respects (state_at c.kept k) s done.state es reached done.near (λ fs is. leads_run c (d + 1) done.state fs (done.moves fs is)) m.written done.written move in
     let leads : LeadsBack c (d + 1) done.state other.other = done.moves other.other other.move in
     shows_append c.sorts s es (list_of list) (other.free (leads_shows c (d + 1) done.state other.other leads))
     (λ survived.
@@ -169,7 +174,7 @@ covers c root room respects closed (es ∷ list) n s reached met moves few =
     (one_came c.limit n (length list) few))
 
 -- from the first state on, as far as events are accepted
-covered : (c : Claim) (root : SimState) (room : ℕ) → Respects c.form c.ids c.moves c.sorts root room → IsClosed c root room → NoneAtFirst c.moves c.limit c.sorts root
+covered : (c : Claim) (root : SimState) (room : ℕ) → RespectsRuns c.form c.ids c.moves c.sorts root room → IsClosed c root room → NoneAtFirst c.moves c.limit c.sorts root
 covered c root room respects closed list moves few =
     covers c root room respects closed list 0 root (reached_first c.moves root closed.force) closed.first moves
     (none_came c.limit (length list) few)

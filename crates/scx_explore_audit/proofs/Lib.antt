@@ -7,3 +7,4 @@ mod Settled
 mod Matched
 mod Wholly
 mod Computed
+pub mod InRuns

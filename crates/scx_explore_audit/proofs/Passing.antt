@@ -3,7 +3,8 @@ use Rattle.std.proofs.Common.{◌≡◌, ℕ, suc, ◌+◌, ◌-◌, ◌<◌, �
 use Rattle.std.proofs.lemmas.Bool.{cases_eq}
 use Rattle.scx_sched_machine.specs.declared.events.Event.{Event}
 use Rattle.scx_sched_machine.specs.declared.events.Event.TheVariants.{Wake, Sleep, Tick, Clock, SetWeight, SetTaskWeight}
-use Rattle.scx_sched.specs.Sim.{SimState, refusal, after_event}
+use Rattle.scx_sched.specs.Sim.{SimState, refusal, after_event, calls_of}
+use Rattle.scx_explore_findings.specs.Asked.{RunAsVerified}
 use Rattle.scx_explore_findings.specs.declared.finding.Sort.{Sort}
 use Rattle.scx_explore_findings.specs.Path.{PathState, machine_of, went_back, went_on}
 use Rattle.scx_explore_audit.specs.declared.advance.Went.TheVariants.{There, Over}
@@ -27,15 +28,15 @@ behind : (p q : PathState) (s : SimState) (e : Event) → refusal (machine_of p)
 behind p q s e fine on at = at ∙ (ap machine_of on ∙ machine_behind p e fine)
 
 -- it is accepted, and shows nothing
-pub comes_there : (sorts : List Sort) (p q : PathState) (s : SimState) (e : Event) → refusal (machine_of p) e ≡ None → q ≡ went_on p e → s ≡ machine_of q → IsSeen There sorts s e → Comes There sorts e p q
-comes_there sorts p q s e fine on at free =
-    (fine, subst (λ (x : SimState). AreFree sorts x e) (behind p q s e fine on at) free, on)
+pub comes_there : (sorts : List Sort) (p q : PathState) (s : SimState) (e : Event) → refusal (machine_of p) e ≡ None → q ≡ went_on p e → s ≡ machine_of q → IsSeen There sorts s e → RunAsVerified (calls_of (machine_of p) e) → Comes There sorts e p q
+comes_there sorts p q s e fine on at free run =
+    (fine, subst (λ (x : SimState). AreFree sorts x e) (behind p q s e fine on at) free, on, run)
 
 -- it shows nothing, and the policy is ejected
-pub comes_over : (sorts : List Sort) (p q r : PathState) (s : SimState) (e : Event) (n : ℕ) → n ≡ length p.events → refusal (machine_of p) e ≡ None → q ≡ went_on p e → s ≡ machine_of q → r ≡ went_back q n → IsSeen Over sorts s e → Comes Over sorts e p r
-comes_over sorts p q r s e n many fine on at back seen =
+pub comes_over : (sorts : List Sort) (p q r : PathState) (s : SimState) (e : Event) (n : ℕ) → n ≡ length p.events → refusal (machine_of p) e ≡ None → q ≡ went_on p e → s ≡ machine_of q → r ≡ went_back q n → IsSeen Over sorts s e → RunAsVerified (calls_of (machine_of p) e) → Comes Over sorts e p r
+comes_over sorts p q r s e n many fine on at back seen run =
     let is : s ≡ after_event (machine_of p) e = behind p q s e fine on at in (
-      λ accepted. subst (λ (x : SimState). AreFree sorts x e × (x.state.world.ejected ≡ None → ⊥)) is seen,
+      λ accepted. let there = subst (λ (x : SimState). AreFree sorts x e × (x.state.world.ejected ≡ None → ⊥)) is seen in (there.0, there.1, run),
       home p q q r e n many fine on refl back,
     )
 
@@ -46,11 +47,12 @@ pub leads_there : (c : Claim) (n : ℕ) (p q : PathState) (e : Event) (es : List
 leads_there c n p q e es comes back = λ accepted. (
   comes.1,
   λ force. subst (λ (s : SimState). LeadsBack c n s es) (ap machine_of comes.2 ∙ machine_behind p e comes.0) back,
+  comes.3,
 )
 
 -- whatever is left does, where no list goes on behind the event
 pub leads_over : (c : Claim) (n : ℕ) (p q : PathState) (e : Event) (es : List Event) → Comes Over c.sorts e p q → LeadsBack c n (machine_of p) (e ∷ es)
-leads_over c n p q e es comes = λ accepted. ((comes.0 accepted).0, λ force. absurd ((comes.0 accepted).1 force))
+leads_over c n p q e es comes = λ accepted. ((comes.0 accepted).0, λ force. absurd ((comes.0 accepted).1 force), (comes.0 accepted).2)
 
 -- a move that is at its end does, where the state there is kept
 pub ends : (c : Claim) (n : ℕ) (s t : SimState) → s ≡ t → (IsWithin c.limit n → IsMet c n s) → LeadsBack c n t []

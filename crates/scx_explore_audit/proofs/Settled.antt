@@ -12,7 +12,7 @@ use Rattle.scx_explore_states.specs.declared.form.Form.{Form}
 use Rattle.scx_explore_machines.specs.Seen.{state_at}
 use Rattle.scx_explore_states.specs.Written.{IsWritten}
 use Rattle.scx_explore_audit.specs.Claims.{IsMove, IsTried}
-use Rattle.scx_explore_audit.specs.Closed.{Claim, IsMet, IsWithin, LeadsBack, IsDone, IsSettled, IsClosed, Respects, depth_at}
+use Rattle.scx_explore_audit.specs.Closed.{Claim, IsMet, IsWithin, LeadsBack, IsDone, IsSettled, IsClosed, RespectsRuns, depth_at}
 use Rattle.scx_explore_audit.specs.Laws.{NoneIn}
 use Rattle.scx_explore_audit.proofs.Covered.{closed_tables_cover}
 
@@ -123,7 +123,7 @@ all_taken {X} P xs n past all = subst (λ (ys : List X). All P ys) (take_all n x
 -- ---- the answer
 
 -- where the answer is that the table is closed, no list shows anything
-pub told : {E : Type 0} (c : Claim) (root : SimState) (room : ℕ) (r : Result Bool E) → IfOk r (λ b. b ≡ true → IsClosed c root room) → IfOk r (λ b. b ≡ true → Respects c.form c.ids c.moves c.sorts root room → NoneIn c.moves c.limit c.sorts root)
+pub told : {E : Type 0} (c : Claim) (root : SimState) (room : ℕ) (r : Result Bool E) → IfOk r (λ b. b ≡ true → IsClosed c root room) → IfOk r (λ b. b ≡ true → RespectsRuns c.form c.ids c.moves c.sorts root room → NoneIn c.moves c.limit c.sorts root)
 told c root room (Ok b) shut = λ is respects. closed_tables_cover c root room respects (shut is)
 told c root room (Err e) shut = tt
 

@@ -1,44 +1,55 @@
 -- By a form that keeps everything, two states with the same words are matched move by move.
-use Rattle.std.proofs.Common.{◌≡◌, ℕ, zero, suc, ◌+◌, ◌-◌, ◌<◌, ◌≤◌, ◌==◌, ◌⊎◌, inl, inr, Bool, true, false, List, [], ◌∷◌, ◌++◌, length, All, Option, Some, None, refl, sym, ap, ◌∙◌, subst, arith, ⊎_elim}
-use Rattle.std.specs.Prelude.{if◌then◌else◌, Result, Ok, Err, IfOk}
+use Rattle.std.proofs.Common.{◌≡◌, ℕ, zero, suc, ◌+◌, ◌-◌, ◌<◌, ◌≤◌, ◌==◌, ◌&&◌, not, ◌⊎◌, inl, inr, Bool, true, false, List, [], ◌∷◌, ◌++◌, length, map, All, Option, Some, None, refl, sym, ap, ◌∙◌, subst, arith, ⊎_elim}
+use Rattle.std.specs.Prelude.{if◌then◌else◌, option_map, Result, Ok, Err, IfOk}
 use Rattle.std.proofs.lemmas.Bool.{cases_lt, eq-eqb}
 use Rattle.std.proofs.lemmas.List.Elements.{All-head, All-tail, All-weaker}
+use Rattle.scx_dsq.specs.declared.entries.Entry.{Entry}
+use Rattle.scx_dsq.specs.Laws.{IsStamped}
+use Rattle.scx_dsq.specs.Queues.{entry_of}
+use Rattle.scx_isa_semantics.specs.Effects.{Query}
 use Rattle.scx_maps.specs.declared.shape.Shape.{Shape}
 use Rattle.scx_weights.specs.Limits.{has_quota}
 use Rattle.scx_sched_tasks.specs.declared.task.Task.{Task}
-use Rattle.scx_sched_world.specs.World.{are_linux}
+use Rattle.scx_sched_world.specs.World.{WorldState, are_linux}
 use Rattle.scx_sched_machine.specs.declared.events.Event.{Event}
 use Rattle.scx_sched_machine.specs.declared.events.Event.TheVariants.{Wake, Sleep, Tick, Clock, SetWeight, SetTaskWeight}
 use Rattle.scx_sched_machine.specs.declared.events.Refused.{Refused}
 use Rattle.scx_sched_policy.specs.Policy.{PolicyState}
-use Rattle.scx_sched_machine.specs.Steps.{State}
-use Rattle.scx_sched.specs.Sim.{SimState, max_events, refusal, stepped_if, after_event}
+use Rattle.scx_sched_machine.specs.Steps.{State, with_world}
+use Rattle.scx_sched.specs.Sim.{SimState, max_events, refusal, stepped_if, after_event, calls_of}
 use Rattle.scx_sched.proofs.Deciding.{accepted}
 use Rattle.scx_load_driver.specs.Runs.{stepped_all, AreAccepted}
 use Rattle.scx_explore_findings.specs.declared.finding.Sort.{Sort}
 use Rattle.scx_explore_findings.specs.Findings.{fault_in, stall_in, exit_in, IsIdleBehind}
 use Rattle.scx_explore_findings.specs.declared.finding.Sort.TheVariants as sort
-use Rattle.scx_explore_findings.specs.Delayed.{delayed_eject, delay_machine, AreClockless, IsSteady, AnswersLater}
-use Rattle.scx_explore_findings.specs.Hidden.{Hidden, unless, since_unless, with_times, hidden_in, all_hidden, with_tasks}
+use Rattle.scx_explore_findings.specs.Asked.{AskAnyhow, AskOnly, OwnCallsAsk}
+use Rattle.scx_explore_findings.specs.Delayed.{later_by, delayed_task, delayed_eject, delay, delay_machine, AreClockless, IsSteady, AnswersLater}
+use Rattle.scx_explore_findings.specs.Hidden.{Hidden, since_unless, hidden_in, all_hidden, with_tasks}
 use Rattle.scx_explore_findings.specs.HiddenLaws.{LeavesOut}
 use Rattle.scx_explore_findings.specs.HiddenMachines as hidden
 use Rattle.scx_explore_findings.specs.IdleSlices as idle
-use Rattle.scx_explore_findings.specs.IdleSlices.{is_idle_of, any_task, TellNoSlices}
+use Rattle.scx_explore_findings.specs.IdleSlices.{runs_on, is_put_nowhere, is_idle, is_idle_of, any_task, sliceless_if, without_slices, TellsNoSlice}
 use Rattle.scx_explore_findings.proofs.IdleRecords.{twice as erased_twice}
 use Rattle.scx_explore_findings.proofs.Words.{idle_written}
-use Rattle.scx_explore_findings.specs.HiddenMachines.{hide_machine, AreUnread, AreAsLate}
-use Rattle.scx_explore_findings.specs.UnreadParts.{AreSame, AnswersAlike}
-use Rattle.scx_explore_findings.specs.WholeForms.{TellsNoTime, IsWhole, IsPlain, IsLed}
+use Rattle.scx_explore_findings.specs.HiddenMachines.{hide_machine}
+use Rattle.scx_explore_findings.specs.QueueOrder.{unnumbered, AreAsQueues}
+use Rattle.scx_explore_findings.specs.Unread.{ReadsNone}
+use Rattle.scx_explore_findings.specs.UnreadParts.{AreSame, AnswersAlike, parts_of, with_parts}
+use Rattle.scx_explore_findings.specs.WholeForms.{TellsNoTime, IsWholeBy, IsPlain, IsLed}
 use Rattle.scx_explore_findings.proofs.DelayedMachines.{events_dont_tell_times, fault_shown, stall_shown, exit_shown, force_back, idle_back, idle_on, written_back, written_on, delay_none}
 use Rattle.scx_explore_findings.proofs.EventWalk.{IsWeighing}
 use Rattle.scx_explore_findings.proofs.FirstLed.{first_led}
 use Rattle.scx_explore_findings.proofs.Led.{AreUnweighing, led_one, led_all, led_suited}
 use Rattle.scx_explore_findings.proofs.EventSizes.{policy_after}
-use Rattle.scx_explore_findings.proofs.Machines.{events_dont_depend, events_tell_no_idle_slices}
+use Rattle.scx_explore_findings.proofs.Helpers.{IsTold}
+use Rattle.scx_explore_findings.proofs.LeftOut.{omit_machine, none_less, parts_machine}
+use Rattle.scx_explore_findings.proofs.Machines.{refusal_there, late_alike}
+use Rattle.scx_explore_findings.proofs.OwnCalls.{left_out_if, own_calls_tell_none}
+use Rattle.scx_explore_findings.proofs.Steps.{TellNothing}
 use Rattle.scx_explore_findings.proofs.Shown.{same_machines_show_the_same, idle_shown}
 use Rattle.scx_explore_findings.proofs.SameMachines.{events_read_no_such_part, counted, room_for_one, room_for_rest, one_longer, states_back}
 use Rattle.scx_explore_findings.proofs.SameShown.{such_parts_show_nothing}
-use Rattle.scx_explore_findings.proofs.SameTold.{IsSuited, resting, clock_kept, clock_told, whole_told}
+use Rattle.scx_explore_findings.proofs.SameTold.{IsSuited, rested, resting, clock_kept, clock_told, whole_told}
 use Rattle.scx_explore_findings.proofs.UnusedGroups.{unused, unused_is_steady, unused_there, unused_here, same_itself}
 use Rattle.scx_explore_states.specs.Words.{most_queues}
 use Rattle.scx_explore_states.specs.Written.{IsWritten}
@@ -46,8 +57,8 @@ use Rattle.scx_explore_states.specs.declared.form.Form.{Form}
 use Rattle.scx_explore_audit.specs.declared.table.Moves.{Moves}
 use Rattle.scx_explore_audit.specs.declared.table.Moves.TheVariants.{Events, Milliseconds}
 use Rattle.scx_explore_audit.specs.Claims.{IsTried, IsMove, IsFree, TaskSet, of_tasks, ticks, millisecond, ShowsNoneAtFirst, list_of}
-use Rattle.scx_explore_audit.specs.Closed.{Claim, AreNumbersOf, IsReached, IsNear, IsMatched, IsSurvived, IsClosed}
-use Rattle.scx_explore_audit.specs.Whole.{HasRoom, WholeFormsAreRespected, NeedsNoPremise}
+use Rattle.scx_explore_audit.specs.Closed.{Claim, AreNumbersOf, IsReached, IsNear, IsMatched, IsSurvived, CallsRunAlong, IsClosed}
+use Rattle.scx_explore_audit.specs.Whole.{HasRoom, WholeFormsAreRespected, FormsWholeInRunsAreRespected, NeedsNoPremise}
 use Rattle.scx_explore_audit.proofs.Covered.{closed_tables_cover}
 
 -- ---- events that change no weight
@@ -137,86 +148,8 @@ survivors_fit s (e ∷ es) over all =
     let one : (after_event s e).events ≡ s.events + 1 = ap (λ o. (stepped_if o s e).events) all.0 in
     one_more_fits (after_event s e).events s.events (length es) max_events one (survivors_fit (after_event s e) es (after_over s e (has_one s e over all.0)) all.2)
 
--- ---- two machines that a whole form doesn't tell apart
-
 bits_apart : (b : Bool) → b ≡ false → b ≡ true → ⊥
 bits_apart b x y = absurd (cc)
-
--- they are the same but for hidden parts and for unread ones
-record AreAlike (h : Hidden) (p : PolicyState) (s t : SimState) : Type 0 where
-  pub one : SimState
-  pub other : SimState
-  pub here : hidden.AreSame h s one
-  pub between : AreSame one other
-  pub there : hidden.AreSame h other t
-  pub policy : s.state.policy ≡ p
-
-module _ (h : Hidden) (p : PolicyState) (stay : h.waits ≡ false) (unread : AreUnread h p) where
-  on_time : (s t : SimState) (e : Event) → AreAsLate h s t e
-  on_time s t e waits = absurd (bits_apart h.waits stay waits)
-
-  -- both answer an event alike, if there is room for it
-  module _ (s t : SimState) (alike : AreAlike h p s t) where
-    as_one : s.events ≡ alike.one.events
-    as_one = ap (λ (x : SimState). x.events) alike.here
-
-    as_other : alike.other.events ≡ t.events
-    as_other = ap (λ (x : SimState). x.events) alike.there
-
-    policy_other : alike.other.state.policy ≡ p
-    policy_other = sym (ap (λ (x : State). x.policy) alike.between.rest) ∙ (sym (ap (λ (x : SimState). x.state.policy) alike.here) ∙ alike.policy)
-
-    ejected_alike : s.state.world.ejected ≡ t.state.world.ejected
-    ejected_alike =
-        (same_machines_show_the_same h s alike.one alike.here).ejected
-        ∙ ((such_parts_show_nothing alike.one alike.other alike.between).ejected ∙ (same_machines_show_the_same h alike.other t alike.there).ejected)
-
-    back : AreSame alike.other alike.one
-    back = states_back false alike.one.state alike.other.state alike.between
-
-    idle_alike : (e : Event) → IsIdleBehind t e None → IsIdleBehind s e None
-    idle_alike e k =
-        (same_machines_show_the_same h alike.one s (sym alike.here)).idle e None
-        ((such_parts_show_nothing alike.other alike.one back).idle e None ((same_machines_show_the_same h t alike.other (sym alike.there)).idle e None k))
-
-    written_alike : (f : Form) (ids xs : List ℕ) → f.pushes ≡ false → LeavesOut f h → IsWritten f ids xs t → IsWritten f ids xs s
-    written_alike f ids xs none out is =
-        (same_machines_show_the_same h alike.one s (sym alike.here)).written f ids xs out
-        ((such_parts_show_nothing alike.other alike.one back).written f ids xs none ((same_machines_show_the_same h t alike.other (sym alike.there)).written f ids xs out is))
-
-    module _ (e : Event) (room : s.events < max_events) (room_there : t.events < max_events) where
-      first : hidden.AnswersAlike h s alike.one e
-      first = events_dont_depend h s alike.one e (subst (AreUnread h) (sym alike.policy) unread) alike.here (on_time s alike.one e)
-
-      second : AnswersAlike alike.one alike.other e
-      second = events_read_no_such_part alike.one alike.other e alike.between (subst (λ (n : ℕ). n < max_events) as_one room) (subst (λ (n : ℕ). n < max_events) (sym as_other) room_there)
-
-      third : hidden.AnswersAlike h alike.other t e
-      third = events_dont_depend h alike.other t e (subst (AreUnread h) (sym policy_other) unread) alike.there (on_time alike.other t e)
-
-      refused_alike : refusal s e ≡ refusal t e
-      refused_alike = first.refusal ∙ (second.refusal ∙ third.refusal)
-
-      after_alike : AreAlike h p (after_event s e) (after_event t e)
-      after_alike = record {
-        one = after_event alike.one e;
-        other = after_event alike.other e;
-        here = first.after;
-        between = second.after;
-        there = third.after;
-        policy = policy_after s e ∙ alike.policy;
-      }
-
-  -- the other way round
-  alike_back : (s t : SimState) → AreAlike h p s t → AreAlike h p t s
-  alike_back s t alike = record {
-    one = alike.other;
-    other = alike.one;
-    here = sym alike.there;
-    between = back s t alike;
-    there = sym alike.here;
-    policy = sym (ap (λ (x : SimState). x.state.policy) alike.there) ∙ policy_other s t alike;
-  }
 
 -- ---- pairs of machines that answer alike
 
@@ -245,13 +178,19 @@ record IsOf (root s : SimState) : Type 0 where
 is_of : (shapes : List Shape) (root s : SimState) → IsLed shapes root s → IsOf root s
 is_of shapes root s led = record { groups = sym led.tidy.1.0.0; rules = led.rules }
 
--- pairs of machines that answer an event alike, and are pairs again after it
-record AreLinked (root : SimState) (f : Form) (ids : List ℕ) (R : SimState → SimState → Type 0) : Type 0 where
+-- that is known of each event that is accepted, as long as the policy stays in force
+abbrev Along : (SimState → Event → Type 0) → SimState → List Event → Type 0
+Along K s [] = Unit {0}
+Along K s (e ∷ es) = refusal s e ≡ None → K s e × ((after_event s e).state.world.ejected ≡ None → Along K (after_event s e) es)
+
+-- pairs of machines that answer an event alike, and are pairs again after it, where that is known of the second one
+record AreLinked (root : SimState) (f : Form) (ids : List ℕ) (K : SimState → Event → Type 0) (R : SimState → SimState → Type 0) : Type 0 where
   pub shows : (s t : SimState) → R s t → ShowsLess f ids s t
   pub refused : (s t : SimState) (e : Event) → R s t → s.events < max_events → t.events < max_events → refusal s e ≡ refusal t e
   pub after :
       (s t : SimState) (e : Event)
       → R s t
+      → K t e
       → IsOf root (after_event s e)
       → IsOf root (after_event t e)
       → s.events < max_events
@@ -259,16 +198,17 @@ record AreLinked (root : SimState) (f : Form) (ids : List ℕ) (R : SimState →
       → R (after_event s e) (after_event t e)
 
 -- two of a pair to which events have led, with room for these events
-record AreAt (shapes : List Shape) (root : SimState) (R : SimState → SimState → Type 0) (s t : SimState) (es : List Event) : Type 0 where
+record AreAt (shapes : List Shape) (root : SimState) (K : SimState → Event → Type 0) (R : SimState → SimState → Type 0) (s t : SimState) (es : List Event) : Type 0 where
   pub pair : R s t
   pub here : IsLed shapes root s
   pub there : IsLed shapes root t
   pub none : AreUnweighing es
   pub over : s.events ≤ max_events
   pub fits : t.events + length es ≤ max_events
+  pub known : Along K t es
 
-module _ (shapes : List Shape) (root : SimState) (f : Form) (ids : List ℕ) (R : SimState → SimState → Type 0) (linked : AreLinked root f ids R) where
-  module _ (s t : SimState) (e : Event) (es : List Event) (at : AreAt shapes root R s t (e ∷ es)) (fine : refusal s e ≡ None) where
+module _ (shapes : List Shape) (root : SimState) (f : Form) (ids : List ℕ) (K : SimState → Event → Type 0) (R : SimState → SimState → Type 0) (linked : AreLinked root f ids K R) where
+  module _ (s t : SimState) (e : Event) (es : List Event) (at : AreAt shapes root K R s t (e ∷ es)) (fine : refusal s e ≡ None) where
     room_here : s.events < max_events
     room_here = has_one s e at.over fine
 
@@ -287,43 +227,48 @@ module _ (shapes : List Shape) (root : SimState) (f : Form) (ids : List ℕ) (R 
     led_there : IsLed shapes root (after_event t e)
     led_there = led_one shapes root t e fine_there at.none.0 at.there
 
-    next : AreAt shapes root R (after_event s e) (after_event t e) es
-    next = record {
-      pair = linked.after s t e at.pair (is_of shapes root (after_event s e) led_here) (is_of shapes root (after_event t e) led_there) room_here room_there;
+    pair : R (after_event s e) (after_event t e)
+    pair = linked.after s t e at.pair (at.known fine_there).0 (is_of shapes root (after_event s e) led_here) (is_of shapes root (after_event t e) led_there) room_here room_there
+
+    next : (after_event t e).state.world.ejected ≡ None → AreAt shapes root K R (after_event s e) (after_event t e) es
+    next force = record {
+      pair = pair;
       here = led_here;
       there = led_there;
       none = at.none.1;
       over = after_over s e room_here;
       fits = room_for_rest t.events (after_event t e).events (length es) max_events (counted (refusal t e) t e) longer;
+      known = (at.known fine_there).1 force;
     }
 
     less : ShowsLess f ids (after_event s e) (after_event t e)
-    less = linked.shows (after_event s e) (after_event t e) next.pair
+    less = linked.shows (after_event s e) (after_event t e) pair
 
-  shows_so : (sorts : List Sort) (s t : SimState) (es : List Event) → AreAt shapes root R s t es → ShowsNoneAtFirst sorts t es → ShowsNoneAtFirst sorts s es
+  shows_so : (sorts : List Sort) (s t : SimState) (es : List Event) → AreAt shapes root K R s t es → ShowsNoneAtFirst sorts t es → ShowsNoneAtFirst sorts s es
   shows_so sorts s t [] at none = tt
   shows_so sorts s t (e ∷ es) at none =
       λ fine.
       let l = less s t e es at fine in
       let there = none (fine_there s t e es at fine) in (
         All-weaker (λ x. IsFree x (after_event t e) e) (λ x. IsFree x (after_event s e) e) (free_so f ids (after_event s e) (after_event t e) l e) sorts there.0,
-        λ force. shows_so sorts (after_event s e) (after_event t e) es (next s t e es at fine) (there.1 (l.force force)),
+        λ force. shows_so sorts (after_event s e) (after_event t e) es (next s t e es at fine (l.force force)) (there.1 (l.force force)),
       )
 
-  survives_so : (s t : SimState) (es : List Event) → AreAt shapes root R s t es → IsSurvived s es → IsSurvived t es
+  survives_so : (s t : SimState) (es : List Event) → AreAt shapes root K R s t es → IsSurvived s es → IsSurvived t es
   survives_so s t [] at all = tt
-  survives_so s t (e ∷ es) at all = (
-    fine_there s t e es at all.0,
-    (less s t e es at all.0).force all.1,
-    survives_so (after_event s e) (after_event t e) es (next s t e es at all.0) all.2,
-  )
+  survives_so s t (e ∷ es) at all =
+      let force = (less s t e es at all.0).force all.1 in (
+        fine_there s t e es at all.0,
+        force,
+        survives_so (after_event s e) (after_event t e) es (next s t e es at all.0 force) all.2,
+      )
 
-  stays_so : (s t : SimState) (es : List Event) → AreAt shapes root R s t es → IsSurvived s es → R (stepped_all s es) (stepped_all t es)
+  stays_so : (s t : SimState) (es : List Event) → AreAt shapes root K R s t es → IsSurvived s es → R (stepped_all s es) (stepped_all t es)
   stays_so s t [] at all = at.pair
-  stays_so s t (e ∷ es) at all = stays_so (after_event s e) (after_event t e) es (next s t e es at all.0) all.2
+  stays_so s t (e ∷ es) at all = stays_so (after_event s e) (after_event t e) es (next s t e es at all.0 ((less s t e es at all.0).force all.1)) all.2
 
   -- so each move is matched
-  matched_so : (moves : Moves) (sorts : List Sort) (r s t : SimState) (es : List Event) → AreAt shapes root R s t es → IsMove moves r es → IsMatched f ids moves sorts r s t es
+  matched_so : (moves : Moves) (sorts : List Sort) (r s t : SimState) (es : List Event) → AreAt shapes root K R s t es → IsMove moves r es → IsMatched f ids moves sorts r s t es
   matched_so moves sorts r s t es at is = record {
     other = es;
     move = is;
@@ -332,30 +277,50 @@ module _ (shapes : List Shape) (root : SimState) (f : Form) (ids : List ℕ) (R 
     written = λ xs survived written. (linked.shows (stepped_all s es) (stepped_all t es) (stays_so s t es at survived)).written xs written;
   }
 
+-- nothing is known
+abbrev AnyKnown : SimState → Event → Type 0
+AnyKnown s e = Unit {0}
+
+-- one after another
+shown_both : (f : Form) (ids : List ℕ) (a b c : SimState) → ShowsLess f ids a b → ShowsLess f ids b c → ShowsLess f ids a c
+shown_both f ids a b c x y = record {
+  force = λ is. y.force (x.force is);
+  faults = x.faults ∙ y.faults;
+  stalls = x.stalls ∙ y.stalls;
+  exits = x.exits ∙ y.exits;
+  idle = λ e is. x.idle e (y.idle e is);
+  written = λ xs is. x.written xs (y.written xs is);
+}
+
 -- ---- machines of the same time
 
-module _ (root : SimState) (f : Form) (ids : List ℕ) (none : f.pushes ≡ false) (h : Hidden) (p : PolicyState) (stay : h.waits ≡ false) (unread : AreUnread h p) (out : LeavesOut f h) where
-  alike_linked : AreLinked root f ids (AreAlike h p)
-  alike_linked = record {
-    shows = λ s t alike.
-        let same = ejected_alike h p stay unread s t alike in
-        record {
-          force = λ is. sym same ∙ is;
-          faults = ap fault_in same;
-          stalls = ap stall_in same;
-          exits = ap exit_in same;
-          idle = idle_alike h p stay unread s t alike;
-          written = λ xs. written_alike h p stay unread s t alike f ids xs none out;
-        };
-    refused = λ s t e alike room there. refused_alike h p stay unread s t alike e room there;
-    after = λ s t e alike of_s of_t room there. after_alike h p stay unread s t alike e room there;
+module _ (root : SimState) (f : Form) (ids : List ℕ) (none : f.pushes ≡ false) where
+  -- but for unread parts
+  shown_parts : (s t : SimState) → AreSame s t → ShowsLess f ids s t
+  shown_parts s t same =
+      let there = such_parts_show_nothing s t same in
+      let back = such_parts_show_nothing t s (states_back false s.state t.state same) in
+      record {
+        force = λ is. sym there.ejected ∙ is;
+        faults = ap fault_in there.ejected;
+        stalls = ap stall_in there.ejected;
+        exits = ap exit_in there.ejected;
+        idle = λ e is. back.idle e None is;
+        written = λ xs is. back.written f ids xs none is;
+      }
+
+  parts_linked : AreLinked root f ids AnyKnown AreSame
+  parts_linked = record {
+    shows = shown_parts;
+    refused = λ s t e same room there. (events_read_no_such_part s t e same room there).refusal;
+    after = λ s t e same known of_s of_t room there. (events_read_no_such_part s t e same room there).after;
   }
 
 -- ---- machines of two times
 
--- the second machine is as the first one would be if all times were later, but for unread parts and for
--- hidden ones; no group has a quota, and the machine goes by plain rules
-record AreTimed (h : Hidden) (p : PolicyState) (s t : SimState) : Type 0 where
+-- the second machine is as the first one would be if all times were later, but for unread parts; no group has a quota,
+-- and the machine goes by plain rules
+record AreTimed (p : PolicyState) (s t : SimState) : Type 0 where
   pub later : ℕ
   pub other : SimState
   pub events : other.events ≡ s.events
@@ -363,21 +328,11 @@ record AreTimed (h : Hidden) (p : PolicyState) (s t : SimState) : Type 0 where
   pub steady : IsSteady other.state
   pub free : has_quota other.state.world.tree.groups ≡ false
   pub rules : are_linux other.state.world.rules ≡ false
-  pub after : AreAlike h p (delay_machine later other) t
+  pub policy : other.state.policy ≡ p
+  pub after : AreSame (delay_machine later other) t
 
-module _ (root : SimState) (f : Form) (ids : List ℕ) (none : f.pushes ≡ false) (no_clock : f.clock ≡ false) (h : Hidden) (p : PolicyState) (stay : h.waits ≡ false) (unread : AreUnread h p) (out : LeavesOut f h) (clockless : AreClockless p) (exact : p.tick_ms ≡ 0) (free : has_quota root.state.world.tree.groups ≡ false) (rules : are_linux root.state.world.rules ≡ false) where
-  -- nothing used, in a machine that is the same but for hidden and unread parts
-  unused_alike : (s t : SimState) → has_quota s.state.world.tree.groups ≡ false → AreAlike h p s t → AreAlike h p (unused s) t
-  unused_alike s t fs alike = record {
-    one = unused alike.one;
-    other = alike.other;
-    here = ap unused alike.here;
-    between = unused_here alike.one.state alike.other.state (sym (ap (λ (x : SimState). has_quota x.state.world.tree.groups) alike.here) ∙ fs) alike.between;
-    there = alike.there;
-    policy = alike.policy;
-  }
-
-  module _ (s t : SimState) (timed : AreTimed h p s t) where
+module _ (root : SimState) (f : Form) (ids : List ℕ) (none : f.pushes ≡ false) (no_clock : f.clock ≡ false) (p : PolicyState) (clockless : AreClockless p) (exact : p.tick_ms ≡ 0) (free : has_quota root.state.world.tree.groups ≡ false) (rules : are_linux root.state.world.rules ≡ false) where
+  module _ (s t : SimState) (timed : AreTimed p s t) where
     z : SimState
     z = timed.other
 
@@ -388,9 +343,9 @@ module _ (root : SimState) (f : Form) (ids : List ℕ) (none : f.pushes ≡ fals
     unfolding z
     parts_back = states_back false s.state z.state timed.before
 
-    policy_there : z.state.policy ≡ p
-    unfolding z
-    policy_there = timed.after.policy
+    parts_before : AreSame t (delay_machine k z)
+    unfolding z k
+    parts_before = states_back false (delay_machine k z).state t.state timed.after
 
     shown : s.state.world.ejected ≡ z.state.world.ejected
     unfolding z
@@ -398,7 +353,7 @@ module _ (root : SimState) (f : Form) (ids : List ℕ) (none : f.pushes ≡ fals
 
     shown_later : delayed_eject k z.state.world.ejected ≡ t.state.world.ejected
     unfolding z k
-    shown_later = ejected_alike h p stay unread (delay_machine k z) t timed.after
+    shown_later = (such_parts_show_nothing (delay_machine k z) t timed.after).ejected
 
     -- the second machine shows what the first one does
     less_on : ShowsLess f ids s t
@@ -408,23 +363,21 @@ module _ (root : SimState) (f : Form) (ids : List ℕ) (none : f.pushes ≡ fals
       faults = ap fault_in shown ∙ (fault_shown k z.state.world.ejected ∙ ap fault_in shown_later);
       stalls = ap stall_in shown ∙ (stall_shown k z.state.world.ejected ∙ ap stall_in shown_later);
       exits = ap exit_in shown ∙ (exit_shown k z.state.world.ejected ∙ ap exit_in shown_later);
-      idle = λ e is. (such_parts_show_nothing z s parts_back).idle e None (idle_back k z e (idle_alike h p stay unread (delay_machine k z) t timed.after e is));
-      written = λ xs is. (such_parts_show_nothing z s parts_back).written f ids xs none (written_back k f ids z no_clock timed.rules timed.free xs (written_alike h p stay unread (delay_machine k z) t timed.after f ids xs none out is));
+      idle = λ e is. (such_parts_show_nothing z s parts_back).idle e None (idle_back k z e ((such_parts_show_nothing t (delay_machine k z) parts_before).idle e None is));
+      written = λ xs is. (such_parts_show_nothing z s parts_back).written f ids xs none (written_back k f ids z no_clock timed.rules timed.free xs ((such_parts_show_nothing t (delay_machine k z) parts_before).written f ids xs none is));
     }
 
     -- and the first one what the second one does
     less_back : ShowsLess f ids t s
     unfolding z k
-    less_back =
-        let turned = alike_back h p stay unread (delay_machine k z) t timed.after in
-        record {
-          force = λ is. shown ∙ force_back k z.state.world.ejected (shown_later ∙ is);
-          faults = sym less_on.faults;
-          stalls = sym less_on.stalls;
-          exits = sym less_on.exits;
-          idle = λ e is. idle_alike h p stay unread t (delay_machine k z) turned e (idle_on k z e ((such_parts_show_nothing s z timed.before).idle e None is));
-          written = λ xs is. written_alike h p stay unread t (delay_machine k z) turned f ids xs none out (written_on k f ids z no_clock timed.rules timed.free xs ((such_parts_show_nothing s z timed.before).written f ids xs none is));
-        }
+    less_back = record {
+      force = λ is. shown ∙ force_back k z.state.world.ejected (shown_later ∙ is);
+      faults = sym less_on.faults;
+      stalls = sym less_on.stalls;
+      exits = sym less_on.exits;
+      idle = λ e is. (such_parts_show_nothing (delay_machine k z) t timed.after).idle e None (idle_on k z e ((such_parts_show_nothing s z timed.before).idle e None is));
+      written = λ xs is. (such_parts_show_nothing (delay_machine k z) t timed.after).written f ids xs none (written_on k f ids z no_clock timed.rules timed.free xs ((such_parts_show_nothing s z timed.before).written f ids xs none is));
+    }
 
     module _ (e : Event) (room : s.events < max_events) (room_t : t.events < max_events) where
       room_z : z.events < max_events
@@ -437,11 +390,15 @@ module _ (root : SimState) (f : Form) (ids : List ℕ) (none : f.pushes ≡ fals
 
       as_later : AnswersLater k z e
       unfolding z
-      as_later = events_dont_tell_times k z e (subst AreClockless (sym policy_there) clockless) (ap (λ (x : PolicyState). x.tick_ms) policy_there ∙ exact) timed.steady
+      as_later = events_dont_tell_times k z e (subst AreClockless (sym timed.policy) clockless) (ap (λ (x : PolicyState). x.tick_ms) timed.policy ∙ exact) timed.steady
+
+      as_last : AnswersAlike (delay_machine k z) t e
+      unfolding z k
+      as_last = events_read_no_such_part (delay_machine k z) t e timed.after room_z room_t
 
       refused_timed : refusal s e ≡ refusal t e
       unfolding z k
-      refused_timed = as_parts.refusal ∙ (as_later.refusal ∙ refused_alike h p stay unread (delay_machine k z) t timed.after e room_z room_t)
+      refused_timed = as_parts.refusal ∙ (as_later.refusal ∙ as_last.refusal)
 
       as_many : (after_event z e).events ≡ (after_event s e).events
       unfolding z
@@ -451,14 +408,14 @@ module _ (root : SimState) (f : Form) (ids : List ℕ) (none : f.pushes ≡ fals
           go None = ap (λ (n : ℕ). n + 1) timed.events
           go (Some r) = timed.events
 
-      after_timed : IsOf root (after_event s e) → AreTimed h p (after_event s e) (after_event t e)
+      after_timed : IsOf root (after_event s e) → AreTimed p (after_event s e) (after_event t e)
       unfolding z k
       after_timed here =
           let s1 = after_event s e in
           let z1 = after_event z e in
           let free_s : has_quota s1.state.world.tree.groups ≡ false = ap has_quota here.groups ∙ free in
           let free_z : has_quota z1.state.world.tree.groups ≡ false = sym (ap (λ (x : State). has_quota x.world.tree.groups) as_parts.after.rest) ∙ free_s in
-          let moved = subst (λ (x : SimState). AreAlike h p x (after_event t e)) (sym as_later.after) (after_alike h p stay unread (delay_machine k z) t timed.after e room_z room_t) in
+          let moved = subst (λ (x : SimState). AreSame x (after_event t e)) (sym as_later.after) as_last.after in
           record {
             later = k;
             other = unused z1;
@@ -467,46 +424,74 @@ module _ (root : SimState) (f : Form) (ids : List ℕ) (none : f.pushes ≡ fals
             steady = unused_is_steady z1.state;
             free = free_z;
             rules = sym (ap (λ (x : State). are_linux x.world.rules) as_parts.after.rest) ∙ (ap are_linux here.rules ∙ rules);
-            after = unused_alike (delay_machine k z1) (after_event t e) free_z moved;
+            policy = policy_after z e ∙ timed.policy;
+            after = unused_here (delay_machine k z1).state (after_event t e).state free_z moved;
           }
 
-  timed_linked : AreLinked root f ids (AreTimed h p)
+  timed_linked : AreLinked root f ids AnyKnown (AreTimed p)
   timed_linked = record {
     shows = λ s t timed. less_on s t timed;
     refused = λ s t e timed room there. refused_timed s t timed e room there;
-    after = λ s t e timed of_s of_t room there. after_timed s t timed e room there of_s;
+    after = λ s t e timed known of_s of_t room there. after_timed s t timed e room there of_s;
   }
 
-  timed_back : AreLinked root f ids (λ s t. AreTimed h p t s)
+  timed_back : AreLinked root f ids AnyKnown (λ s t. AreTimed p t s)
   timed_back = record {
     shows = λ s t timed. less_back t s timed;
     refused = λ s t e timed room there. sym (refused_timed t s timed e there room);
-    after = λ s t e timed of_s of_t room there. after_timed t s timed e there room of_t;
+    after = λ s t e timed known of_s of_t room there. after_timed t s timed e there room of_t;
   }
 
--- ---- machines that differ in slices of tasks that sleep or are held
+-- ---- machines that differ in what is left out
 
 -- without these slices, or all the same
 abbrev IsRested : Bool → SimState → SimState → Type 0
 IsRested true s t = idle.AreSame s t
 IsRested false s t = s ≡ t
 
--- both are the same as two of such a pair, but for these slices if that is so wanted
-record AreRested (less : Bool) (p : PolicyState) (R : SimState → SimState → Type 0) (s t : SimState) : Type 0 where
+-- slices that are erased are so for good
+rested_so : (less : Bool) (s : SimState) → IsRested less s (resting less s)
+rested_so false s = refl
+rested_so true s =
+    let those = is_idle_of any_task s.state.world in
+    ap (λ (xs : List Task). record s { state = record s.state { world = with_tasks s.state.world xs } }) (erased_twice those those s.state.world.tasks (λ t e. e))
+
+rested_back : (b : Bool) (s t : SimState) → IsRested b s t → IsRested b t s
+rested_back true s t same = sym same
+rested_back false s t same = sym same
+
+-- what is left out is hidden once slices are erased
+omit_is : (less : Bool) (h : Hidden) (s : SimState) → omit_machine (left_out_if less h) s ≡ hide_machine h (resting less s)
+omit_is true h s = refl
+omit_is false h s = parts_machine h s
+
+-- no program of the policy asks for what is left out, or none of its programs that the event calls
+abbrev Tells : Bool → Hidden → PolicyState → SimState → Event → Type 0
+Tells less h p s e = TellNothing (left_out_if less h) p ⊎ OwnCallsAsk (IsTold (left_out_if less h)) p (calls_of s e)
+
+-- the second machine is the same as one of such a pair, but for what is left out
+record AreOmitted (less : Bool) (h : Hidden) (p : PolicyState) (R : SimState → SimState → Type 0) (s t : SimState) : Type 0 where
   pub one : SimState
-  pub other : SimState
-  pub here : IsRested less s one
-  pub pair : R one other
-  pub there : IsRested less t other
-  pub policy : s.state.policy ≡ p
-  pub policy_there : t.state.policy ≡ p
+  pub near : R s one
+  pub there : omit_machine (left_out_if less h) one ≡ omit_machine (left_out_if less h) t
+  pub policy : t.state.policy ≡ p
 
-module _ (root : SimState) (f : Form) (ids : List ℕ) (less : Bool) (p : PolicyState) (tells : less ≡ true → TellNoSlices p) (out : less ≡ true → f.idle_slices ≡ false) where
-  rested_back : (b : Bool) (s t : SimState) → IsRested b s t → IsRested b t s
-  rested_back true s t same = sym same
-  rested_back false s t same = sym same
+module _ (root : SimState) (f : Form) (ids : List ℕ) (less : Bool) (h : Hidden) (p : PolicyState) (stay : h.waits ≡ false) (out : LeavesOut f h) (sliceless : less ≡ true → f.idle_slices ≡ false) where
+  -- what is hidden shows nothing
+  shown_hidden : (s t : SimState) → hidden.AreSame h s t → ShowsLess f ids s t
+  shown_hidden s t same =
+      let there = same_machines_show_the_same h s t same in
+      let back = same_machines_show_the_same h t s (sym same) in
+      record {
+        force = λ is. sym there.ejected ∙ is;
+        faults = ap fault_in there.ejected;
+        stalls = ap stall_in there.ejected;
+        exits = ap exit_in there.ejected;
+        idle = λ e is. back.idle e None is;
+        written = λ xs is. back.written f ids xs out is;
+      }
 
-  -- what such a pair shows
+  -- nor do these slices
   shown_rested : (b : Bool) → (b ≡ true → f.idle_slices ≡ false) → (s t : SimState) → IsRested b s t → ShowsLess f ids s t
   shown_rested false free s t same = subst (ShowsLess f ids s) same (record { force = λ is. is; faults = refl; stalls = refl; exits = refl; idle = λ e is. is; written = λ xs is. is })
   shown_rested true free s t same =
@@ -520,86 +505,181 @@ module _ (root : SimState) (f : Form) (ids : List ℕ) (less : Bool) (p : Policy
         written = λ xs is. idle_written f ids xs t s (free refl) (sym same) is;
       }
 
-  -- one after another
-  shown_both : (a b c : SimState) → ShowsLess f ids a b → ShowsLess f ids b c → ShowsLess f ids a c
-  shown_both a b c x y = record {
-    force = λ is. y.force (x.force is);
-    faults = x.faults ∙ y.faults;
-    stalls = x.stalls ∙ y.stalls;
-    exits = x.exits ∙ y.exits;
-    idle = λ e is. x.idle e (y.idle e is);
-    written = λ xs is. x.written xs (y.written xs is);
+  shown_omitted : (s t : SimState) → omit_machine (left_out_if less h) s ≡ omit_machine (left_out_if less h) t → ShowsLess f ids s t
+  shown_omitted s t same =
+      let a = resting less s in
+      let b = resting less t in
+      shown_both f ids s a t (shown_rested less sliceless s a (rested_so less s))
+      (shown_both f ids a b t (shown_hidden a b (sym (omit_is less h s) ∙ (same ∙ omit_is less h t))) (shown_rested less sliceless b t (rested_back less t b (rested_so less t))))
+
+  module _ (R : SimState → SimState → Type 0) (linked : AreLinked root f ids AnyKnown R) where
+    module _ (s t : SimState) (e : Event) (x : AreOmitted less h p R s t) where
+      as_many_there : x.one.events ≡ t.events
+      as_many_there = ap (λ (y : SimState). y.events) x.there
+
+      one_fits_there : t.events < max_events → x.one.events < max_events
+      one_fits_there room = subst (λ (n : ℕ). n < max_events) (sym as_many_there) room
+
+      refused_omitted : s.events < max_events → t.events < max_events → refusal s e ≡ refusal t e
+      refused_omitted room there = linked.refused s x.one e x.near room (one_fits_there there) ∙ refusal_there (left_out_if less h) x.one t x.there e
+
+      after_omitted : Tells less h p t e → IsOf root (after_event s e) → IsOf root (after_event t e) → s.events < max_events → t.events < max_events → AreOmitted less h p R (after_event s e) (after_event t e)
+      after_omitted tells of_s of_t room there =
+          let own = subst (λ (q : PolicyState). TellNothing (left_out_if less h) q ⊎ OwnCallsAsk (IsTold (left_out_if less h)) q (calls_of t e)) (sym x.policy) tells in
+          let alike = late_alike (left_out_if less h) stay t x.one (sym x.there) e own in
+          let of_one : IsOf root (after_event x.one e) = record { groups = sym (ap (λ (y : SimState). y.state.world.tree.groups) alike) ∙ of_t.groups; rules = sym (ap (λ (y : SimState). y.state.world.rules) alike) ∙ of_t.rules } in
+          record {
+            one = after_event x.one e;
+            near = linked.after s x.one e x.near tt of_s of_one room (one_fits_there there);
+            there = sym alike;
+            policy = policy_after t e ∙ x.policy;
+          }
+
+    omitted_linked : AreLinked root f ids (Tells less h p) (AreOmitted less h p R)
+    omitted_linked = record {
+      shows = λ s t x. shown_both f ids s x.one t (linked.shows s x.one x.near) (shown_omitted x.one t x.there);
+      refused = λ s t e x room there. refused_omitted s t e x room there;
+      after = λ s t e x tells of_s of_t room there. after_omitted s t e x tells of_s of_t room there;
+    }
+
+-- programs that tell nothing of it tell nothing along any events
+along_any : (less : Bool) (h : Hidden) (p : PolicyState) → TellNothing (left_out_if less h) p → (s : SimState) (es : List Event) → Along (Tells less h p) s es
+along_any less h p tells s [] = tt
+along_any less h p tells s (e ∷ es) = λ fine. (inl tells, λ force. along_any less h p tells (after_event s e) es)
+
+-- nor do those that tell nothing in their runs, where callbacks run as they were verified
+along_runs : (less : Bool) (h : Hidden) (p : PolicyState) → AskOnly (ReadsNone h) p → (less ≡ true → AskOnly TellsNoSlice p) → (s : SimState) (es : List Event) → CallsRunAlong s es → Along (Tells less h p) s es
+along_runs less h p unread told s [] run = tt
+along_runs less h p unread told s (e ∷ es) run = λ fine. (
+  inr (own_calls_tell_none less h p (calls_of s e) unread told (run fine).0),
+  λ force. along_runs less h p unread told (after_event s e) es ((run fine).1 force),
+)
+
+-- ---- records of tasks
+
+nowhere_same : (o : Option Entry) → is_put_nowhere (option_map unnumbered o) ≡ is_put_nowhere o
+nowhere_same None = refl
+nowhere_same (Some e) = refl
+
+-- the same tasks sleep or are held where the same CPUs run them, and queues are the same but for order numbers
+idle_alike : (v w : WorldState) → v.cpus ≡ w.cpus → AreAsQueues v.queues w.queues → (u : ℕ) → is_idle v u ≡ is_idle w u
+idle_alike v w cpus queues u =
+    ap (λ (cs : List (Option ℕ)). not (runs_on u cs) && is_put_nowhere (entry_of v.queues u)) cpus
+    ∙ ap (λ (b : Bool). not (runs_on u w.cpus) && b) (sym (nowhere_same (entry_of v.queues u)) ∙ (ap is_put_nowhere (queues.places u) ∙ nowhere_same (entry_of w.queues u)))
+
+-- records with or without slices of these tasks
+rested_is : (less : Bool) (w : WorldState) → rested less w ≡ without_slices (is_idle_of (λ t. less) w) w.tasks
+rested_is true w = refl
+rested_is false w = sym (none_less (is_idle_of (λ t. false) w) w.tasks (λ t. refl))
+
+heads : {a b : Task} {l m : List Task} → a ∷ l ≡ b ∷ m → a ≡ b
+heads k = cc
+
+tails : {a b : Task} {l m : List Task} → a ∷ l ≡ b ∷ m → l ≡ m
+tails k = cc
+
+-- records of the second machine, with waits of the first one
+record Merges (h : Hidden) (d : ℕ) (p : ℕ → Bool) (xs ys : List Task) : Type 0 where
+  pub tasks : List Task
+  pub late : map (delayed_task d) tasks ≡ ys
+  pub same : all_hidden h (without_slices p tasks) ≡ all_hidden h (without_slices p xs)
+
+module _ (h : Hidden) (stay : h.waits ≡ false) (d : ℕ) where
+  since_of : (a b : Bool) (x y : Task) → a ≡ false → since_unless a (delayed_task d (sliceless_if b x)).since ≡ since_unless a (sliceless_if b y).since → later_by d x.since ≡ y.since
+  since_of true b x y e k = absurd (bits_apart true e refl)
+  since_of false true x y e k = k
+  since_of false false x y e k = k
+
+  late_one : (b : Bool) (x y : Task) → hidden_in h (delayed_task d (sliceless_if b x)) ≡ hidden_in h (sliceless_if b y) → delayed_task d (record y { since = x.since }) ≡ y
+  late_one b x y e = ap (λ (o : Option ℕ). record y { since = o }) (since_of h.waits b x y stay (ap (λ (w : Task). w.since) e))
+
+  same_one : (b : Bool) (x y : Task) → hidden_in h (delayed_task d (sliceless_if b x)) ≡ hidden_in h (sliceless_if b y) → hidden_in h (sliceless_if b (record y { since = x.since })) ≡ hidden_in h (sliceless_if b x)
+  same_one true x y e = ap (λ (w : Task). record w { since = since_unless h.waits x.since }) (sym e)
+  same_one false x y e = ap (λ (w : Task). record w { since = since_unless h.waits x.since }) (sym e)
+
+  merged : (p q : ℕ → Bool) → ((u : ℕ) → p u ≡ q u) → (xs ys : List Task) → all_hidden h (map (delayed_task d) (without_slices p xs)) ≡ all_hidden h (without_slices q ys) → Merges h d p xs ys
+  merged p q e [] [] k = record { tasks = []; late = refl; same = refl }
+  merged p q e [] (y ∷ ys) k = absurd (cc)
+  merged p q e (x ∷ xs) [] k = absurd (cc)
+  merged p q e (x ∷ xs) (y ∷ ys) k =
+      let m = merged (λ u. p (suc u)) (λ u. q (suc u)) (λ u. e (suc u)) xs ys (tails k) in
+      let here = heads k ∙ ap (λ (b : Bool). hidden_in h (sliceless_if b y)) (sym (e 0)) in
+      let z : Task = record y { since = x.since } in
+      record {
+        tasks = z ∷ m.tasks;
+        late = ap (λ (w : Task). w ∷ map (delayed_task d) m.tasks) (late_one (p 0) x y here) ∙ ap (λ (l : List Task). y ∷ l) m.late;
+        same = ap (λ (w : Task). w ∷ all_hidden h (without_slices (λ u. p (suc u)) m.tasks)) (same_one (p 0) x y here) ∙ ap (λ (l : List Task). hidden_in h (sliceless_if (p 0) x) ∷ l) m.same;
+      }
+
+  late_slice : (b : Bool) (x : Task) → sliceless_if b (delayed_task d x) ≡ delayed_task d (sliceless_if b x)
+  late_slice true x = refl
+  late_slice false x = refl
+
+  -- later records without slices of these tasks
+  late_slices : (p q : ℕ → Bool) → ((u : ℕ) → p u ≡ q u) → (xs : List Task) → without_slices p (map (delayed_task d) xs) ≡ map (delayed_task d) (without_slices q xs)
+  late_slices p q e [] = refl
+  late_slices p q e (x ∷ xs) =
+      ap (λ (b : Bool). sliceless_if b (delayed_task d x) ∷ without_slices (λ u. p (suc u)) (map (delayed_task d) xs)) (e 0)
+      ∙ (ap (λ (y : Task). y ∷ without_slices (λ u. p (suc u)) (map (delayed_task d) xs)) (late_slice (q 0) x)
+      ∙ ap (λ (l : List Task). delayed_task d (sliceless_if (q 0) x) ∷ l) (late_slices (λ u. p (suc u)) (λ u. q (suc u)) (λ u. e (suc u)) xs))
+
+-- ---- the machine between
+
+module _ (less : Bool) (h : Hidden) (stay : h.waits ≡ false) (d : ℕ) (s t : SimState) (told : AreSame (hide_machine h (delay_machine d (resting less s))) (hide_machine h (resting less t))) where
+  same_cpus : s.state.world.cpus ≡ t.state.world.cpus
+  same_cpus = ap (λ (x : State). x.world.cpus) told.rest
+
+  same_idle : (u : ℕ) → is_idle_of (λ v. less) s.state.world u ≡ is_idle_of (λ v. less) t.state.world u
+  same_idle u = ap (λ (b : Bool). less && b) (idle_alike s.state.world t.state.world same_cpus told.parts.queues u)
+
+  tasks_told : all_hidden h (map (delayed_task d) (without_slices (is_idle_of (λ v. less) s.state.world) s.state.world.tasks)) ≡ all_hidden h (without_slices (is_idle_of (λ v. less) t.state.world) t.state.world.tasks)
+  tasks_told =
+      ap (λ (xs : List Task). all_hidden h (map (delayed_task d) xs)) (sym (rested_is less s.state.world))
+      ∙ (ap (λ (x : State). x.world.tasks) told.rest ∙ ap (all_hidden h) (rested_is less t.state.world))
+
+  -- the first one, later, with parts of the second one
+  placed : SimState
+  placed = record { state = with_world s.state (with_parts (delay d s.state.world) (parts_of t.state.world)); events = t.events }
+
+  placed_near : AreSame (delay_machine d s) placed
+  unfolding placed
+  placed_near = record { parts = told.parts; rest = refl }
+
+  placed_tasks : all_hidden h (without_slices (is_idle_of (λ v. less) placed.state.world) placed.state.world.tasks) ≡ all_hidden h (map (delayed_task d) (without_slices (is_idle_of (λ v. less) s.state.world) s.state.world.tasks))
+  unfolding placed
+  placed_tasks =
+      ap (all_hidden h) (late_slices h stay d (is_idle_of (λ v. less) placed.state.world) (is_idle_of (λ v. less) s.state.world)
+      (λ u. ap (λ (cs : List (Option ℕ)). less && (not (runs_on u cs) && is_put_nowhere (entry_of t.state.world.queues u))) same_cpus ∙ sym (same_idle u)) s.state.world.tasks)
+
+  placed_there : omit_machine (left_out_if less h) placed ≡ omit_machine (left_out_if less h) t
+  unfolding placed
+  placed_there =
+      ap (λ (xs : List Task). record { state = with_world s.state (with_tasks (with_parts (delay d s.state.world) (parts_of t.state.world)) xs); events = t.events }) (placed_tasks ∙ tasks_told)
+      ∙ ap (λ (x : State). record { state = with_world x (with_tasks x.world (all_hidden h (without_slices (is_idle_of (λ v. less) t.state.world) t.state.world.tasks))); events = t.events }) told.rest
+
+  merge : Merges h d (is_idle_of (λ v. less) s.state.world) s.state.world.tasks t.state.world.tasks
+  merge = merged h stay d (is_idle_of (λ v. less) s.state.world) (is_idle_of (λ v. less) t.state.world) same_idle s.state.world.tasks t.state.world.tasks tasks_told
+
+  -- the first one, with what is left out as in the second one
+  filled : SimState
+  filled = record s { state = with_world s.state (with_tasks s.state.world merge.tasks) }
+
+  filled_is : filled ≡ record s { state = with_world s.state (with_tasks s.state.world merge.tasks) }
+  unfolding filled
+  filled_is = refl
+
+  filled_here : omit_machine (left_out_if less h) filled ≡ omit_machine (left_out_if less h) s
+  unfolding filled
+  filled_here = ap (λ (xs : List Task). record s { state = with_world s.state (with_tasks s.state.world xs) }) merge.same
+
+  filled_near : AreSame (delay_machine d filled) t
+  unfolding filled
+  filled_near = record {
+    parts = told.parts;
+    rest =
+        ap (λ (xs : List Task). with_world s.state (with_tasks (with_parts (delay d s.state.world) (parts_of t.state.world)) xs)) merge.late
+        ∙ ap (λ (x : State). with_world x (with_tasks x.world t.state.world.tasks)) told.rest;
   }
-
-  events_rested : (b : Bool) (s t : SimState) → IsRested b s t → s.events ≡ t.events
-  events_rested true s t same = ap (λ (x : SimState). x.events) same
-  events_rested false s t same = ap (λ (x : SimState). x.events) same
-
-  refused_rested : (b : Bool) → (b ≡ true → TellNoSlices p) → (s t : SimState) (e : Event) → s.state.policy ≡ p → IsRested b s t → refusal s e ≡ refusal t e
-  refused_rested false may s t e is same = ap (λ (x : SimState). refusal x e) same
-  refused_rested true may s t e is same = (events_tell_no_idle_slices s t e (subst TellNoSlices (sym is) (may refl)) same).refusal
-
-  after_rested : (b : Bool) → (b ≡ true → TellNoSlices p) → (s t : SimState) (e : Event) → s.state.policy ≡ p → IsRested b s t → IsRested b (after_event s e) (after_event t e)
-  after_rested false may s t e is same = ap (λ (x : SimState). after_event x e) same
-  after_rested true may s t e is same = (events_tell_no_idle_slices s t e (subst TellNoSlices (sym is) (may refl)) same).after
-
-  of_rested : (b : Bool) (s t : SimState) → IsRested b s t → IsOf root s → IsOf root t
-  of_rested false s t same x = subst (IsOf root) same x
-  of_rested true s t same x = record {
-    groups = sym (ap (λ (y : SimState). y.state.world.tree.groups) same) ∙ x.groups;
-    rules = sym (ap (λ (y : SimState). y.state.world.rules) same) ∙ x.rules;
-  }
-
-  rested_linked : (R : SimState → SimState → Type 0) → AreLinked root f ids R → AreLinked root f ids (AreRested less p R)
-  rested_linked R linked = record {
-    shows = λ s t x.
-        shown_both s x.one t (shown_rested less out s x.one x.here)
-        (shown_both x.one x.other t (linked.shows x.one x.other x.pair) (shown_rested less out x.other t (rested_back less t x.other x.there)));
-    refused = λ s t e x room there.
-        refused_rested less tells s x.one e x.policy x.here
-        ∙ (linked.refused x.one x.other e x.pair (subst (λ (n : ℕ). n < max_events) (events_rested less s x.one x.here) room) (subst (λ (n : ℕ). n < max_events) (events_rested less t x.other x.there) there)
-        ∙ sym (refused_rested less tells t x.other e x.policy_there x.there));
-    after = λ s t e x of_s of_t room there.
-        let here = after_rested less tells s x.one e x.policy x.here in
-        let end = after_rested less tells t x.other e x.policy_there x.there in
-        record {
-          one = after_event x.one e;
-          other = after_event x.other e;
-          here = here;
-          pair = linked.after x.one x.other e x.pair (of_rested less (after_event s e) (after_event x.one e) here of_s) (of_rested less (after_event t e) (after_event x.other e) end of_t)
-              (subst (λ (n : ℕ). n < max_events) (events_rested less s x.one x.here) room) (subst (λ (n : ℕ). n < max_events) (events_rested less t x.other x.there) there);
-          there = end;
-          policy = policy_after s e ∙ x.policy;
-          policy_there = policy_after t e ∙ x.policy_there;
-        };
-  }
-
--- slices that are erased are so for good
-rested_so : (less : Bool) (s : SimState) → IsRested less s (resting less s)
-rested_so false s = refl
-rested_so true s =
-    let those = is_idle_of any_task s.state.world in
-    ap (λ (xs : List Task). record s { state = record s.state { world = with_tasks s.state.world xs } }) (erased_twice those those s.state.world.tasks (λ t e. e))
-
--- what is hidden is so once and for all
-hidden_once : (h : Hidden) (xs : List Task) → all_hidden h (all_hidden h xs) ≡ all_hidden h xs
-hidden_once h [] = refl
-hidden_once h (x ∷ xs) =
-    ap (λ (y : Task). y ∷ all_hidden h (all_hidden h xs)) (twice h.waits h.vtime h.run_ns)
-    ∙ ap (λ (l : List Task). hidden_in h x ∷ l) (hidden_once h xs)
-  where
-    twice : (a b c : Bool) → with_times x (since_unless a (since_unless a x.since)) (unless b (unless b x.vtime)) (unless c (unless c x.run_ns)) ≡ with_times x (since_unless a x.since) (unless b x.vtime) (unless c x.run_ns)
-    twice true true true = refl
-    twice true true false = refl
-    twice true false true = refl
-    twice true false false = refl
-    twice false true true = refl
-    twice false true false = refl
-    twice false false true = refl
-    twice false false false = refl
-
-hidden_same : (h : Hidden) (s : SimState) → hidden.AreSame h s (hide_machine h s)
-hidden_same h s = λ i. record s { state = record s.state { world = record s.state.world { tasks = sym (hidden_once h s.state.world.tasks) i } } }
 
 near_fits : (i n k r j m : ℕ) → i ≡ n + k → k < r → n + r + j ≤ m → i + j ≤ m
 near_fits i n k r j m e l f = omega (arith, e, l, f)
@@ -614,7 +694,7 @@ later_than n d l = omega (arith, l)
 earlier : (n d : ℕ) → d < n → d ≤ n
 earlier n d l = omega (arith, l)
 
-module _ (f : Form) (ids : List ℕ) (moves : Moves) (sorts : List Sort) (root : SimState) (room : ℕ) (shapes : List Shape) (whole : IsWhole root.state.policy f) (plain : IsPlain root) (led : IsLed shapes root root) (few : length ids ≤ most_queues) (fits : HasRoom moves root room) (xs : List ℕ) (s t : SimState) (es : List Event) (reached : IsReached moves root s) (near : IsNear root room t) (here : IsWritten f ids xs s) (there : IsWritten f ids xs t) (move : IsMove moves root es) where
+module _ (Ask : (Query → Type 0) → PolicyState → Type 0) (f : Form) (ids : List ℕ) (moves : Moves) (sorts : List Sort) (root : SimState) (room : ℕ) (shapes : List Shape) (whole : IsWholeBy Ask root.state.policy f) (plain : IsPlain root) (led : IsLed shapes root root) (few : length ids ≤ most_queues) (fits : HasRoom moves root room) (xs : List ℕ) (s t : SimState) (es : List Event) (reached : IsReached moves root s) (near : IsNear root room t) (known : (less : Bool) → (less ≡ true → Ask TellsNoSlice root.state.policy) → Along (Tells less whole.hidden root.state.policy) t es) (here : IsWritten f ids xs s) (there : IsWritten f ids xs t) (move : IsMove moves root es) where
   led_s : IsLed shapes root s
   led_s = subst (IsLed shapes root) (sym reached.state) (led_all shapes root root (list_of reached.list) reached.accepted (moves_none moves root reached.list reached.made) led)
 
@@ -637,96 +717,118 @@ module _ (f : Form) (ids : List ℕ) (moves : Moves) (sorts : List Sort) (root :
       let count : t.events ≡ root.events + length near.events = ap (λ (x : SimState). x.events) near.state ∙ counts root near.events near.accepted in
       near_fits t.events root.events (length near.events) room (length es) max_events count near.few (fits es move)
 
-  -- of two machines of such a pair each move is matched
-  linked_so : (R : SimState → SimState → Type 0) → AreLinked root f ids R → R s t → IsMatched f ids moves sorts root s t es
-  linked_so R linked pair = matched_so shapes root f ids R linked moves sorts root s t es (record { pair = pair; here = led_s; there = led_t; none = move_none moves root es move; over = s_over; fits = t_fits }) move
-
-  h : Hidden
+  abbrev h : Hidden
   h = whole.hidden
 
-  p : PolicyState
+  abbrev p : PolicyState
   p = root.state.policy
 
-  between : (x y : SimState) → x.state.policy ≡ p → AreSame (hide_machine h x) (hide_machine h y) → AreAlike h p x y
-  between x y is told = record { one = hide_machine h x; other = hide_machine h y; here = hidden_same h x; between = told; there = sym (hidden_same h y); policy = is }
-
   -- with slices of tasks that sleep or are held told, or not
-  module _ (less : Bool) (keeps : less ≡ false → f.idle_slices ≡ true) (tells : less ≡ true → TellNoSlices p) (leaves : less ≡ true → f.idle_slices ≡ false) where
-    rested_pair : (R : SimState → SimState → Type 0) → R (resting less s) (resting less t) → AreRested less p R s t
-    unfolding p
-    rested_pair R pair = record { one = resting less s; other = resting less t; here = rested_so less s; pair = pair; there = rested_so less t; policy = led_s.policy; policy_there = led_t.policy }
-
-    so : (R : SimState → SimState → Type 0) → AreLinked root f ids R → R (resting less s) (resting less t) → IsMatched f ids moves sorts root s t es
-    so R linked pair = linked_so (AreRested less p R) (rested_linked root f ids less p tells leaves R linked) (rested_pair R pair)
+  module _ (less : Bool) (keeps : less ≡ false → f.idle_slices ≡ true) (tells : less ≡ true → Ask TellsNoSlice p) (leaves : less ≡ true → f.idle_slices ≡ false) where
+    -- of two machines of such a pair each move is matched
+    so : (R : SimState → SimState → Type 0) → AreLinked root f ids AnyKnown R → AreOmitted less h p R s t → IsMatched f ids moves sorts root s t es
+    so R linked pair =
+        matched_so shapes root f ids (Tells less h p) (AreOmitted less h p R) (omitted_linked root f ids less h p whole.waits_stay whole.left_out leaves R linked) moves sorts root s t es
+        (record { pair = pair; here = led_s; there = led_t; none = move_none moves root es move; over = s_over; fits = t_fits; known = known less tells }) move
 
     -- at the same time
     at_once : s.state.world.clock ≡ t.state.world.clock → IsMatched f ids moves sorts root s t es
-    unfolding h p
     at_once same =
-        let told = whole_told shapes root plain f ids xs whole few s t suited_s suited_t here there less keeps 0 (no_later s.state.world.clock t.state.world.clock same) in
-        so (AreAlike h p) (alike_linked root f ids whole.pushes h p whole.waits_stay whole.unread whole.left_out)
-        (subst (λ (x : SimState). AreAlike h p x (resting less t)) (delay_none (resting less s)) (between (delay_machine 0 (resting less s)) (resting less t) led_s.policy told))
+        let told = whole_told Ask shapes root plain f ids xs whole few s t suited_s suited_t here there less keeps 0 (no_later s.state.world.clock t.state.world.clock same) in
+        so AreSame (parts_linked root f ids whole.pushes) (record {
+          one = placed less h whole.waits_stay 0 s t told;
+          near = subst (λ (x : SimState). AreSame x (placed less h whole.waits_stay 0 s t told)) (delay_none s) (placed_near less h whole.waits_stay 0 s t told);
+          there = placed_there less h whole.waits_stay 0 s t told;
+          policy = led_t.policy;
+        })
 
     module _ (time : TellsNoTime p) (no_clock : f.clock ≡ false) (free : has_quota root.state.world.tree.groups ≡ false) where
       free_of : (x : SimState) → IsLed shapes root x → has_quota x.state.world.tree.groups ≡ false
       free_of x l = sym (ap has_quota l.tidy.1.0.0) ∙ free
 
-      -- the second one later
-      timed_so : (x y : SimState) → IsLed shapes root x → (d : ℕ) → AreSame (hide_machine h (delay_machine d (resting less x))) (hide_machine h (resting less y)) → AreTimed h p (resting less x) (resting less y)
-      unfolding h p
-      timed_so x y l d told = record {
-        later = d;
-        other = unused (resting less x);
-        events = refl;
-        before = unused_there (resting less x).state (resting less x).state (free_of x l) (same_itself (resting less x).state l.fine.sound.stamped);
-        steady = unused_is_steady (resting less x).state;
-        free = free_of x l;
-        rules = ap are_linux l.rules ∙ plain.rules;
-        after = unused_alike root f ids whole.pushes no_clock h p whole.waits_stay whole.unread whole.left_out time.clockless time.exact free plain.rules (delay_machine d (resting less x)) (resting less y) (free_of x l) (between (delay_machine d (resting less x)) (resting less y) l.policy told);
-      }
+      -- a machine that is the same as that one, but for records of tasks, and another one that is the same later
+      timed_so : (x y z : SimState) → IsLed shapes root x → (d : ℕ) → (ts : List Task) → z ≡ record x { state = with_world x.state (with_tasks x.state.world ts) } → AreSame (delay_machine d z) y → AreTimed p z y
+      timed_so x y z l d ts is same =
+          let groups : z.state.world.tree.groups ≡ x.state.world.tree.groups = ap (λ (u : SimState). u.state.world.tree.groups) is in
+          let free_z : has_quota z.state.world.tree.groups ≡ false = ap has_quota groups ∙ free_of x l in
+          record {
+            later = d;
+            other = unused z;
+            events = refl;
+            before = unused_there z.state z.state free_z (same_itself z.state (subst (λ (u : SimState). IsStamped u.state.world.queues) (sym is) l.fine.sound.stamped));
+            steady = unused_is_steady z.state;
+            free = free_z;
+            rules = ap (λ (u : SimState). are_linux u.state.world.rules) is ∙ (ap are_linux l.rules ∙ plain.rules);
+            policy = ap (λ (u : SimState). u.state.policy) is ∙ l.policy;
+            after = unused_here (delay_machine d z).state y.state free_z same;
+          }
 
       at_two_times : IsMatched f ids moves sorts root s t es
-      unfolding h p
       at_two_times =
           let v = s.state.world.clock in
           let w = t.state.world.clock in
-          ⊎_elim (λ (l : w < v).
-          so (λ x y. AreTimed h p y x) (timed_back root f ids whole.pushes no_clock h p whole.waits_stay whole.unread whole.left_out time.clockless time.exact free plain.rules)
-          (timed_so t s led_t (v - w) (whole_told shapes root plain f ids xs whole few t s suited_t suited_s there here less keeps (v - w) (later_than w v (earlier v w l)))))
-          (λ (l : v ≤ w).
-          so (AreTimed h p) (timed_linked root f ids whole.pushes no_clock h p whole.waits_stay whole.unread whole.left_out time.clockless time.exact free plain.rules)
-          (timed_so s t led_s (w - v) (whole_told shapes root plain f ids xs whole few s t suited_s suited_t here there less keeps (w - v) (later_than v w l))))
+          ⊎_elim (λ (l : w < v). later (v - w) (whole_told Ask shapes root plain f ids xs whole few t s suited_t suited_s there here less keeps (v - w) (later_than w v (earlier v w l))))
+          (λ (l : v ≤ w). sooner (w - v) (whole_told Ask shapes root plain f ids xs whole few s t suited_s suited_t here there less keeps (w - v) (later_than v w l)))
           (cases_lt w v)
+        where
+          later : (d : ℕ) → AreSame (hide_machine h (delay_machine d (resting less t))) (hide_machine h (resting less s)) → IsMatched f ids moves sorts root s t es
+          later d told =
+              so (λ x y. AreTimed p y x) (timed_back root f ids whole.pushes no_clock p time.clockless time.exact free plain.rules) (record {
+                one = filled less h whole.waits_stay d t s told;
+                near = timed_so t s (filled less h whole.waits_stay d t s told) led_t d (merge less h whole.waits_stay d t s told).tasks (filled_is less h whole.waits_stay d t s told) (filled_near less h whole.waits_stay d t s told);
+                there = filled_here less h whole.waits_stay d t s told;
+                policy = led_t.policy;
+              })
+
+          sooner : (d : ℕ) → AreSame (hide_machine h (delay_machine d (resting less s))) (hide_machine h (resting less t)) → IsMatched f ids moves sorts root s t es
+          sooner d told =
+              so (AreTimed p) (timed_linked root f ids whole.pushes no_clock p time.clockless time.exact free plain.rules) (record {
+                one = placed less h whole.waits_stay d s t told;
+                near = timed_so s (placed less h whole.waits_stay d s t told) s led_s d s.state.world.tasks refl (placed_near less h whole.waits_stay d s t told);
+                there = placed_there less h whole.waits_stay d s t told;
+                policy = led_t.policy;
+              })
 
     -- whether or not the clock is told
     matched_by : IsMatched f ids moves sorts root s t es
-    unfolding p
     matched_by = go f.clock (has_quota root.state.world.tree.groups) refl refl whole.clock
       where
         kept : f.clock ≡ true → IsMatched f ids moves sorts root s t es
-        kept e = at_once (clock_kept shapes root plain f ids xs whole few s t suited_s suited_t here there e)
+        kept e = at_once (clock_kept Ask shapes root plain f ids xs whole few s t suited_s suited_t here there e)
 
         go : (b c : Bool) → f.clock ≡ b → has_quota root.state.world.tree.groups ≡ c → (f.clock ≡ true) ⊎ TellsNoTime p → IsMatched f ids moves sorts root s t es
         go true c e q o = kept e
-        go false true e q o = at_once (clock_told shapes root plain f ids xs whole few s t suited_s suited_t here there (sym (ap has_quota led_s.tidy.1.0.0) ∙ q))
+        go false true e q o = at_once (clock_told Ask shapes root plain f ids xs whole few s t suited_s suited_t here there (sym (ap has_quota led_s.tidy.1.0.0) ∙ q))
         go false false e q (inl is) = kept is
         go false false e q (inr time) = at_two_times time e q
 
   -- and whether or not slices of tasks that sleep or are held are
   matched : IsMatched f ids moves sorts root s t es
-  unfolding p
   matched = go f.idle_slices refl whole.idle_slices
     where
-      go : (b : Bool) → f.idle_slices ≡ b → (f.idle_slices ≡ true) ⊎ TellNoSlices p → IsMatched f ids moves sorts root s t es
+      go : (b : Bool) → f.idle_slices ≡ b → (f.idle_slices ≡ true) ⊎ Ask TellsNoSlice p → IsMatched f ids moves sorts root s t es
       go true e o = matched_by false (λ is. e) (λ is. absurd (bits_apart false refl is)) (λ is. absurd (bits_apart false refl is))
       go false e (inl is) = absurd (bits_apart f.idle_slices e is)
       go false e (inr tells) = matched_by true (λ is. absurd (bits_apart true is refl)) (λ is. tells) (λ is. e)
 
+-- ---- laws
+
+tell_nothing : (less : Bool) (h : Hidden) (p : PolicyState) → AskAnyhow (ReadsNone h) p → (less ≡ true → AskAnyhow TellsNoSlice p) → TellNothing (left_out_if less h) p
+tell_nothing true h p unread told = record { unread = unread; told = inr (told refl) }
+tell_nothing false h p unread told = record { unread = unread; told = inl (λ t. refl) }
+
 pub whole_forms_are_respected : WholeFormsAreRespected
-whole_forms_are_respected f ids moves sorts root room shapes whole plain led few fits xs s t es reached near here there move = matched f ids moves sorts root room shapes whole plain led few fits xs s t es reached near here there move
+whole_forms_are_respected f ids moves sorts root room shapes whole plain led few fits xs s t es reached near here there move =
+    matched AskAnyhow f ids moves sorts root room shapes whole plain led few fits xs s t es reached near
+    (λ less tells. along_any less whole.hidden root.state.policy (tell_nothing less whole.hidden root.state.policy whole.unread tells) t es) here there move
+
+pub forms_whole_in_runs_are_respected : FormsWholeInRunsAreRespected
+forms_whole_in_runs_are_respected f ids moves sorts root room shapes whole plain led few fits xs s t es reached near run here there move =
+    matched AskOnly f ids moves sorts root room shapes whole plain led few fits xs s t es reached near
+    (λ less tells. along_runs less whole.hidden root.state.policy whole.unread tells t es (run es move)) here there move
 
 -- a closed table of a whole form leaves no list out
 pub told_whole : {E : Type 0} (c : Claim) (root : SimState) (room : ℕ) (r : Result Bool E) → IfOk r (λ b. b ≡ true → IsClosed c root room) → IfOk r (λ b. b ≡ true → AreNumbersOf root c.ids) → IfOk r (λ b. b ≡ true → NeedsNoPremise c.form c.moves c.limit c.sorts root room)
 told_whole c root room (Ok b) shut numbers = λ is p tree cpus first valid whole plain fits.
-    closed_tables_cover c root room (whole_forms_are_respected c.form c.ids c.moves c.sorts root room p.shapes whole plain (first_led p tree cpus root first valid) (numbers is).few fits) (shut is)
+    closed_tables_cover c root room (forms_whole_in_runs_are_respected c.form c.ids c.moves c.sorts root room p.shapes whole plain (first_led p tree cpus root first valid) (numbers is).few fits) (shut is)
 told_whole c root room (Err e) shut numbers = tt

@@ -2,8 +2,9 @@
 use Rattle.std.specs.Prelude.{◌≡◌, ℕ, ◌+◌, ◌<◌, ◌≤◌, ⊤, true, List, [], ◌∷◌, length, slice_index, All, Option, None, Some, IfSome}
 use Rattle.scx_dsq.specs.Queues.{exists}
 use Rattle.scx_sched_machine.specs.declared.events.Event.{Event}
-use Rattle.scx_sched.specs.Sim.{SimState, refusal, after_event}
+use Rattle.scx_sched.specs.Sim.{SimState, refusal, after_event, calls_of}
 use Rattle.scx_load_driver.specs.Runs.{stepped_all, AreAccepted}
+use Rattle.scx_explore_findings.specs.Asked.{RunAsVerified}
 use Rattle.scx_explore_findings.specs.declared.finding.Sort.{Sort}
 use Rattle.scx_explore_states.specs.declared.form.Form.{Form}
 use Rattle.scx_explore_machines.specs.Seen.{Kept, state_at}
@@ -114,6 +115,27 @@ Respects f ids moves sorts root room =
     → IsMove moves root es
     → IsMatched f ids moves sorts root s t es
 
+-- as far as the events are accepted and the policy stays in force, each callback that they call
+-- runs to its end as it was verified
+abbrev pub CallsRunAlong : SimState → List Event → Type 0
+CallsRunAlong s [] = ⊤
+CallsRunAlong s (e ∷ es) =
+    refusal s e ≡ None
+    → RunAsVerified (calls_of s e)
+    × ((after_event s e).state.world.ejected ≡ None → CallsRunAlong (after_event s e) es)
+
+-- the same where callbacks of the second state's moves run as they were verified
+abbrev pub RespectsRuns : Form → List ℕ → Moves → List Sort → SimState → ℕ → Type 0
+RespectsRuns f ids moves sorts root room =
+    (xs : List ℕ) (s t : SimState) (es : List Event)
+    → IsReached moves root s
+    → IsNear root room t
+    → ((fs : List Event) → IsMove moves root fs → CallsRunAlong t fs)
+    → IsWritten f ids xs s
+    → IsWritten f ids xs t
+    → IsMove moves root es
+    → IsMatched f ids moves sorts root s t es
+
 -- ---- what is audited
 
 -- words of the state are kept, and no more moves lead to them than that, where their
@@ -124,14 +146,16 @@ pub record IsMet (c : Claim) (n : ℕ) (s : SimState) : Type 0 where
   pub depth : IfSome c.limit (λ limit. depth_at c number ≤ n)
   pub written : IsWritten c.form c.ids (state_at c.kept number) s
 
--- as far as the events are accepted and the policy stays in force, they show nothing; and where all
--- are and it does, the state after them is kept, if a list of n moves may have one more
+-- as far as the events are accepted and the policy stays in force, they show nothing, and callbacks
+-- run as they were verified; and where all are and it does, the state after them is kept, if a list
+-- of n moves may have one more
 abbrev pub LeadsBack : Claim → ℕ → SimState → List Event → Type 0
 LeadsBack c n s [] = IsWithin c.limit n → IsMet c n s
 LeadsBack c n s (e ∷ es) =
     refusal s e ≡ None
     → AreFree c.sorts (after_event s e) e
     × ((after_event s e).state.world.ejected ≡ None → LeadsBack c n (after_event s e) es)
+    × RunAsVerified (calls_of s e)
 
 -- a state that is written as the words of that number is near, and each move leads back from it
 pub record IsDone (c : Claim) (root : SimState) (room k : ℕ) : Type 0 where

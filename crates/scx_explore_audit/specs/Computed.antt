@@ -1,16 +1,20 @@
 -- The forms that a search computes: what they leave out by calls is known, and what they leave out
--- by loads and inserts is presumed of runs.
+-- by loads and inserts is presumed of runs, or shown of those that fit.
 use Rattle.std.specs.Prelude.{◌≡◌, true, false, not, Option, Some, None}
 use Rattle.scx_isa_semantics.specs.declared.callbacks.Callback.{Callback}
+use Rattle.scx_isa_semantics.specs.Callbacks.{callbacks}
 use Rattle.scx_vm.specs.Programs.{VerifiedProgram}
+use Rattle.scx_load_policies.specs.Building.{IsBuilt}
+use Rattle.scx_load_policies.specs.Policies.{PolicyFile}
 use Rattle.scx_sched_policy.specs.Policy.{PolicyState, program_of}
 use Rattle.scx_explore_states.specs.declared.form.Form.{Form}
+use Rattle.scx_explore_states.specs.declared.map_words.MapWords.{MapWords}
 use Rattle.scx_explore_findings.specs.Hidden.{Hidden}
 use Rattle.scx_explore_findings.specs.HiddenMachines.{AreUnread}
 use Rattle.scx_explore_findings.specs.IdleSlices.{TellNoSlices}
-use Rattle.scx_explore_findings.specs.WholeForms.{IsWhole}
+use Rattle.scx_explore_findings.specs.WholeForms.{IsWhole, IsWholeInRuns}
 use Rattle.scx_explore_bounds.specs.declared.uses.Uses.{Uses}
-use Rattle.scx_explore_bounds.specs.Forms.{tells_idle_slices, form_of}
+use Rattle.scx_explore_bounds.specs.Forms.{tells_idle_slices, form_of, no_uses, DoAll}
 use Rattle.scx_explore_bounds.specs.Told.{DoesNoMore}
 
 -- the program does no more than that, if there is one
@@ -36,3 +40,15 @@ ComputedFormsAreWhole =
     → AreUnread (left_out_by (form_of u true)) p
     → (tells_idle_slices u ≡ false → TellNoSlices p)
     → IsWhole p (form_of u true)
+
+-- Nothing of that is presumed of the policy of a file: the form that is computed for milliseconds
+-- is whole in each run, with any words of maps, if slices end exactly, and where a program loads a
+-- slice, slices are kept.
+abbrev pub ComputedFormsAreWholeInRuns : Type 0
+ComputedFormsAreWholeInRuns =
+    (file : PolicyFile) (p : PolicyState) (u : Uses) (words : MapWords)
+    → IsBuilt file p
+    → DoAll file.rules file.shapes file.programs callbacks no_uses u
+    → p.tick_ms ≡ 0
+    → (u.slice ≡ true → tells_idle_slices u ≡ true)
+    → IsWholeInRuns p (record (form_of u true) { map_words = words })

@@ -6,7 +6,7 @@ use Rattle.scx_explore_findings.specs.declared.finding.Sort.{Sort}
 use Rattle.scx_explore_audit.specs.declared.table.Moves.{Moves}
 use Rattle.scx_explore_audit.specs.declared.table.Moves.TheVariants.{Events}
 use Rattle.scx_explore_audit.specs.Claims.{IsMove, IsTried, ShowsNone, ShowsNoneAtFirst, accepted_of, list_of}
-use Rattle.scx_explore_audit.specs.Closed.{Claim, IsClosed, Respects}
+use Rattle.scx_explore_audit.specs.Closed.{Claim, IsClosed, RespectsRuns}
 
 -- no list of such moves, of any number or of at most `limit`, shows anything of these sorts,
 -- whichever of its events are refused
@@ -21,7 +21,7 @@ NoneIn moves limit sorts root =
 abbrev pub ClosedTablesCover : Type 0
 ClosedTablesCover =
     (c : Claim) (root : SimState) (room : ℕ)
-    → Respects c.form c.ids c.moves c.sorts root room
+    → RespectsRuns c.form c.ids c.moves c.sorts root room
     → IsClosed c root room
     → NoneIn c.moves c.limit c.sorts root
 

@@ -2,7 +2,8 @@
 use Rattle.std.specs.Prelude.{◌≡◌, ℕ, ◌-◌, ⊤, List, [], ◌∷◌, ◌++◌, length, None}
 use Rattle.scx_sched_machine.specs.declared.events.Event.{Event}
 use Rattle.scx_sched_machine.specs.declared.events.Event.TheVariants.{Wake, Sleep, Clock}
-use Rattle.scx_sched.specs.Sim.{SimState, refusal, after_event}
+use Rattle.scx_sched.specs.Sim.{SimState, refusal, after_event, calls_of}
+use Rattle.scx_explore_findings.specs.Asked.{RunAsVerified}
 use Rattle.scx_explore_findings.specs.declared.finding.Sort.{Sort}
 use Rattle.scx_explore_findings.specs.Path.{PathState, machine_of, went_on}
 use Rattle.scx_explore_audit.specs.declared.advance.Went.{Went}
@@ -16,15 +17,17 @@ IsSeen Over sorts s e = AreFree sorts s e × (s.state.world.ejected ≡ None →
 IsSeen Shows sorts s e = ⊤
 
 -- what the answer says of the event after the list, and what becomes of the list: it goes on by
--- one that is accepted and shows nothing; or the event is refused, or shows nothing and ends it
+-- one that is accepted and shows nothing; or the event is refused, or shows nothing and ends it. If
+-- it is accepted, its callbacks run as they were verified
 abbrev pub Comes : Went → List Sort → Event → PathState → PathState → Type 0
 Comes There sorts e p q =
     (refusal (machine_of p) e ≡ None) × AreFree sorts (after_event (machine_of p) e) e
-    × (q ≡ went_on p e)
+    × (q ≡ went_on p e) × RunAsVerified (calls_of (machine_of p) e)
 Comes Over sorts e p q =
     (refusal (machine_of p) e ≡ None
     → AreFree sorts (after_event (machine_of p) e) e
-    × ((after_event (machine_of p) e).state.world.ejected ≡ None → ⊥))
+    × ((after_event (machine_of p) e).state.world.ejected ≡ None → ⊥)
+    × RunAsVerified (calls_of (machine_of p) e))
     × (q ≡ p)
 Comes Shows sorts e p q = q ≡ p
 

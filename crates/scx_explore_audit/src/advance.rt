@@ -31,7 +31,7 @@ pub(crate) fn go_along(sorts: &[Sort], event: Event, path: &mut Path, hand: &mut
         return Went::Over;
     }
     let length = path.events().len();
-    match path.go_on(event, &mut hand.watch) {
+    match path.go_on(event, &mut hand.heard) {
         Ok(()) => match seen_behind(sorts, path.sim(), event) {
             Went::There => Went::There,
             Went::Over => {

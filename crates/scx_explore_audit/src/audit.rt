@@ -1,7 +1,7 @@
 ghost use Rattle.std.specs.Prelude.{ℕ, ◌≡◌, ◌<◌, true, length, All, IfOk, None};
 ghost use Rattle.scx_explore_findings.specs.Path.{machine_of};
 ghost use Rattle.scx_explore_audit.specs.Claims.{IsTried};
-ghost use Rattle.scx_explore_audit.specs.Closed.{AreNumbersOf, IsClosed, IsMet, IsSettled, IsWithin, Respects, claim_of};
+ghost use Rattle.scx_explore_audit.specs.Closed.{AreNumbersOf, IsClosed, IsMet, IsSettled, IsWithin, RespectsRuns, claim_of};
 ghost use Rattle.scx_explore_audit.specs.Laws.{NoneIn};
 ghost use Rattle.scx_explore_audit.specs.Marks.{ArePast};
 ghost use Rattle.scx_explore_audit.specs.Whole.{NeedsNoPremise};
@@ -11,7 +11,7 @@ use crate::queues::are_queues;
 use crate::states::{begin, is_done, is_met};
 use crate::table::{Charted, Hand, Table};
 use crate::walking::{come_on, is_in_force};
-use scx_explore_findings::{Path, Watch};
+use scx_explore_findings::{Heard, Path, Watch};
 use std::alloc::{AllocError, Global};
 
 /// True if the table is closed: the first state is kept, and from no state that is kept a move leads out of it, or
@@ -29,11 +29,11 @@ pub fn none_in_lists(
     path: &mut Path,
 ) -> Result<bool, AllocError>
     // Where it is, the numbers are those of queues of the path's machine, and no list of such moves shows anything of
-    // the sorts, if what the form leaves out of a state changes nothing.
+    // the sorts, if what the form leaves out of a state changes nothing, where callbacks run as they were verified.
     ensures numbers { IfOk result (λ closed. closed ≡ true
         → AreNumbersOf path.old.root table.entry.numbers.now) }
     ensures none { IfOk result (λ closed. closed ≡ true
-        → Respects table.entry.form table.entry.numbers.now table.entry.moves
+        → RespectsRuns table.entry.form table.entry.numbers.now table.entry.moves
         table.entry.sorts.now path.old.root path.old.room
         → NoneIn table.entry.moves table.entry.limit table.entry.sorts.now path.old.root) }
     // Of a form that keeps everything that is proved, by plain rules.
@@ -101,7 +101,9 @@ fn is_closed_with(
 {
     let words = Vec::with_capacity(alloc, charted.table.seen.width())?;
     let mut hand = Hand {
-        watch: Watch::new(homes),
+        heard: Heard {
+            watch: Watch::new(homes),
+        },
         words,
     };
     let closed = is_closed(charted, path, &mut hand, marks);

@@ -28,11 +28,11 @@ pub(crate) fn wakes_lead_back(
     if task >= tasks_of(path) {
         return ticks_lead_back(charted, depth, 0, path, hand);
     }
-    let watched = hand.watch.watched();
+    let watched = hand.heard.watch.watched();
     if !wakes_lead_back(charted, depth, task + 1, path, hand) {
         return false;
     }
-    hand.watch.go_on(watched);
+    hand.heard.watch.go_on(watched);
     let length = path.events().len();
     match go_along(charted.table.sorts, Event::Wake(task), path, hand) {
         Went::There => {
@@ -89,11 +89,11 @@ fn sleeps_lead_back(
     if task >= tasks_of(path) {
         return last_leads_back(charted, depth, Event::Clock, path, hand);
     }
-    let watched = hand.watch.watched();
+    let watched = hand.heard.watch.watched();
     if !sleeps_lead_back(charted, depth, task + 1, path, hand) {
         return false;
     }
-    hand.watch.go_on(watched);
+    hand.heard.watch.go_on(watched);
     let length = path.events().len();
     match go_along(charted.table.sorts, Event::Sleep(task), path, hand) {
         Went::There => {

@@ -85,7 +85,7 @@ fn is_same(one: &[u64], other: &[u64]) -> bool
 
 /// From the state after the list on these are watched.
 pub(crate) fn begin(hand: &mut Hand, path: &Path, began: u64) {
-    hand.watch.begin(path.sim(), began);
+    hand.heard.watch.begin(path.sim(), began);
 }
 
 /// True if the state of that machine, to which `depth` moves lead, is kept: with the tasks that were watched as they began
@@ -97,7 +97,7 @@ pub(crate) fn is_met(charted: Charted<'_>, depth: usize, sim: &Sim, hand: &mut H
     if !is_within(charted.table.limit, depth) {
         return true;
     }
-    let began = hand.watch.watched().began;
+    let began = hand.heard.watch.watched().began;
     if is_met_with(charted, depth, sim, began, hand) {
         return true;
     }

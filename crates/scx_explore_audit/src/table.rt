@@ -1,4 +1,4 @@
-use scx_explore_findings::{Sort, Watch};
+use scx_explore_findings::{Heard, Sort};
 use scx_explore_machines::Seen;
 use scx_explore_states::{Form, QueueNumbers};
 
@@ -39,7 +39,7 @@ pub(crate) struct Charted<'a> {
 #[derive(Drop)]
 pub(crate) struct Hand {
     /// The tasks that begin to run while another waits, as searches keep them.
-    pub(crate) watch: Watch,
+    pub(crate) heard: Heard,
     /// A place for the words of one state.
     pub(crate) words: Vec<u64>,
 }

@@ -151,8 +151,8 @@ module _ (r : Rules) (shapes : List Shape) (p : Programs) where
 
   shown_one : (b : Callback) (o : Option Code) (u v w : Uses) → DoesAs r shapes b o u v → IsMore v w → IfDoesNoMore w (here b) o
   shown_one b None u v w does more = tt
-  shown_one b (Some code) u v w does more = λ program typed.
-      no_more v w (here b) code more (subst (λ (x : Uses). DoesNoMore x (here b) code) (sym does.uses) (shown_after u (here b) does.listing code does.known program typed))
+  shown_one b (Some code) u v w does more = λ typed.
+      no_more v w (here b) code more (subst (λ (x : Uses). DoesNoMore x (here b) code) (sym does.uses) (shown_after u (here b) does.listing code does.known does.program typed))
 
   -- of each of these callbacks
   shown_all : (bs : List Callback) (u v : Uses) → DoAll r shapes p bs u v → AllByRecursion (λ b. IfDoesNoMore v (here b) (at p b)) bs

@@ -2,4 +2,4 @@ mod Slots
 pub mod Told
 mod Tables
 mod EachProgram
-mod Done
+pub mod Done

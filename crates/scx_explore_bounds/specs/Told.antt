@@ -70,7 +70,7 @@ pub record DoesNoMore (u : Uses) (c : Context) (code : Code) : Type 0 where
 -- so it is with a program that passes in that context, if there is one
 abbrev pub IfDoesNoMore : Uses → Context → Option Code → Type 0
 IfDoesNoMore u c None = Unit {0}
-IfDoesNoMore u c (Some code) = IsProgram code → IsTyped c code → DoesNoMore u c code
+IfDoesNoMore u c (Some code) = IsTyped c code → DoesNoMore u c code
 
 -- what the programs of a policy do tells what none of them does in any run
 abbrev pub UsesTellRuns : Type 0

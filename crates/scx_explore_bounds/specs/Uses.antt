@@ -17,6 +17,7 @@ use Rattle.scx_isa_semantics.specs.Arithmetic.{at_distance}
 use Rattle.scx_isa_semantics.specs.Code.{Code, at}
 use Rattle.scx_isa_semantics.specs.HostTables.{field_at, field_offset, helper_at, helper_number}
 use Rattle.scx_isa_semantics.specs.Memory.{access_size, size_bytes}
+use Rattle.scx_isa.specs.Spelling.{IsProgram}
 use Rattle.scx_abs.specs.declared.kinds.Kind.{Kind}
 use Rattle.scx_abs.specs.declared.kinds.Kind.TheVariants.{Num, Task}
 use Rattle.scx_abs.specs.declared.states.AbsState.{AbsState}
@@ -122,6 +123,7 @@ with_listing u c r l = record {
 
 -- the second are the first with what a program does in that context, by what the verifier knows
 pub record Does (u : Uses) (c : Context) (code : Code) (v : Uses) : Type 0 where
+  pub program : IsProgram code
   pub listing : Listing
   pub known : IsListing c code listing
   pub uses : v ≡ with_listing u c.callback c.rules listing

@@ -82,6 +82,7 @@ impl Uses {
     ) -> Result<Uses, AllocError>
         ensures { IfOk result (Does self context program.now) }
     {
+        let _slots = program.slots();
         let (callback, rules) = (context.callback, context.rules);
         let listing = Listing::new(alloc, program, context)?;
         let uses = self.with_listing(callback, rules, &listing);

@@ -15,7 +15,7 @@ use Rattle.scx_explore_findings.specs.IdleSlices.{is_put_nowhere, is_idle, is_id
 use Rattle.scx_explore_findings.proofs.IdleRecords.{bits, of_same}
 use Rattle.scx_explore_findings.proofs.Omitting.{Omitted, omit, omit_state, omit_call, omit_step, twice, IfAny}
 use Rattle.scx_explore_findings.proofs.Helpers.{IsTold}
-use Rattle.scx_explore_findings.proofs.Runs.{calls_more}
+use Rattle.scx_explore_findings.proofs.Runs.{own_calls_more}
 use Rattle.scx_explore_findings.proofs.Steps.{AskNone, Tells, tells_first_if, Passes, from, joins, choose, rests}
 use Rattle.scx_explore_findings.proofs.Cycles.{next_same}
 use Rattle.scx_explore_findings.proofs.Events.{IsApart, passes_any_round, passes_own}
@@ -64,7 +64,7 @@ module _ (h : Omitted) (p : PolicyState) where
     any_here (inr x) = inr x
 
     calls_here : (cs : List CallMade) → AskNone h p cs → AskNone (here h s.world) p cs
-    calls_here cs asks = calls_more (IsTold h) (IsTold (here h s.world)) (λ w q k. (k.0, any_here k.1)) cs asks
+    calls_here cs asks = own_calls_more (IsTold h) (IsTold (here h s.world)) (λ w q k. (k.0, any_here k.1)) p cs asks
 
     tells_here : (r q : Stepped) → Tells h p r q → Tells (here h s.world) p r q
     tells_here r q (inl tells) = inl (record { unread = tells.unread; told = any_here tells.told })

@@ -218,3 +218,7 @@ module _ (p : PolicyState) (tree : Hierarchy) (cpus : ℕ) where
         random = λ may. refl;
         order = λ may. first_states_are_in_order p tree cpus s (subst InsertInOrder h.policy may) first;
       }
+
+  -- and it is under that policy
+  pub first_policy : (s : SimState) → IsFirstState p tree cpus s → s.state.policy ≡ p
+  first_policy s first = (first_made s.state first.0).policy

@@ -30,7 +30,7 @@ omit_machine h s = record s { state = omit_state h s.state }
 abbrev pub parts_alone : Hidden → Omitted
 parts_alone h = record { parts = h; idle = λ t. false }
 
-none_less : (p : ℕ → Bool) (xs : List Task) → ((t : ℕ) → p t ≡ false) → without_slices p xs ≡ xs
+pub none_less : (p : ℕ → Bool) (xs : List Task) → ((t : ℕ) → p t ≡ false) → without_slices p xs ≡ xs
 none_less p [] e = refl
 none_less p (x ∷ xs) e =
     ap (λ (b : Bool). sliceless_if b x ∷ without_slices (λ t. p (suc t)) xs) (e 0) ∙ ap (λ (ys : List Task). x ∷ ys) (none_less (λ t. p (suc t)) xs (λ t. e (suc t)))

@@ -1,11 +1,11 @@
 pub mod Records
 pub mod IdleRecords
-mod Omitting
+pub mod Omitting
 mod IdleTasks
 pub mod Worlds
 pub mod Helpers
 pub mod Runs
-mod Answered
+pub mod Answered
 pub mod WorldSizes
 pub mod EventWalk
 pub mod EventSizes
@@ -20,8 +20,9 @@ pub mod Steps
 pub mod Cycles
 pub mod Events
 mod AnyRounds
-mod LeftOut
+pub mod LeftOut
 pub mod Machines
+pub mod OwnCalls
 pub mod Words
 pub mod Near
 pub mod Loads
@@ -56,7 +57,7 @@ pub mod DelayedCycles
 pub mod DelayedEvents
 pub mod DelayedMachines
 pub mod UnusedGroups
-mod GivenSlices
+pub mod GivenSlices
 pub mod SameTold
 pub mod QueueWalk
 pub mod Led

@@ -8,7 +8,7 @@ use Rattle.scx_sched_machine.specs.Steps.{State, Stepped}
 use Rattle.scx_sched_machine.specs.Events.{own_step, event_step}
 use Rattle.scx_sched.specs.Sim.{SimState, max_events, refusal, stepped_if, after_event, notes_if, notes_of, calls_if, calls_of}
 use Rattle.scx_load_driver.specs.Runs.{notes_of_all}
-use Rattle.scx_explore_findings.specs.Asked.{CallsAsk}
+use Rattle.scx_explore_findings.specs.Asked.{OwnCallsAsk}
 use Rattle.scx_explore_findings.specs.Hidden.{Hidden}
 use Rattle.scx_explore_findings.specs.HiddenStates.{late_in}
 use Rattle.scx_explore_findings.specs.HiddenMachines.{AreSame, AreUnread, AreAsLate, AnswersAlike}
@@ -17,6 +17,7 @@ use Rattle.scx_explore_findings.specs.IdleSlices as slices
 use Rattle.scx_explore_findings.specs.IdleSlices.{any_task, EventsTellNoIdleSlices, CallsTellNoIdleSlices}
 use Rattle.scx_explore_findings.proofs.Omitting.{Omitted, omit_state, omit_call, omit_step}
 use Rattle.scx_explore_findings.proofs.Helpers.{IsTold}
+use Rattle.scx_explore_findings.proofs.Runs.{own_of_all}
 use Rattle.scx_explore_findings.proofs.Steps.{TellNothing, Tells}
 use Rattle.scx_explore_findings.proofs.Events.{refusal_same, late_same}
 use Rattle.scx_explore_findings.proofs.AnyRounds.{passes_event}
@@ -30,12 +31,12 @@ module _ (h : Omitted) where
 
   module _ (s t : SimState) (same : omit_machine h s ≡ omit_machine h t) (e : Event) where
     -- an event is refused for the same cause in both
-    refusal_there : refusal s e ≡ refusal t e
+    pub refusal_there : refusal s e ≡ refusal t e
     refusal_there = refusal_is s e ∙ ap (λ (x : SimState). refusal x e) same ∙ sym (refusal_is t e)
 
-    -- no program of the policy asks for what is left out, or none that is called in the first machine
-    abbrev Known : Type 0
-    Known = TellNothing h s.state.policy ⊎ CallsAsk (IsTold h) (calls_of s e)
+    -- no program of the policy asks for what is left out, or none of its programs that is called in the first machine
+    abbrev pub Known : Type 0
+    Known = TellNothing h s.state.policy ⊎ OwnCallsAsk (IsTold h) s.state.policy (calls_of s e)
 
     -- the same task or none waits too long in both
     abbrev Late : Type 0
@@ -48,7 +49,7 @@ module _ (h : Omitted) where
         where
           go : Known → Tells h s.state.policy (event_step s.state e) (event_step t.state e)
           go (inl tells) = inl tells
-          go (inr asks) = inr (inl (subst (λ (o : Option Refused). CallsAsk (IsTold h) (calls_if o s e)) ok asks))
+          go (inr asks) = inr (inl (subst (λ (o : Option Refused). OwnCallsAsk (IsTold h) s.state.policy (calls_if o s e)) ok asks))
 
       accepted_is : refusal s e ≡ None → (omit_step h (event_step s.state e) ≡ omit_step h (event_step t.state e)) × ((event_step s.state e).state.policy ≡ s.state.policy)
       accepted_is ok = passes_event h s.state.policy e s.state t.state (ap (λ (x : SimState). x.state) same) refl late (tells_accepted ok)
@@ -88,6 +89,11 @@ module _ (h : Omitted) where
           go None ok = ap (λ (r : Stepped). r.calls) (accepted_is ok).0
           go (Some r) ok = refl
 
+-- so both go alike, if since when tasks wait isn't left out
+pub late_alike : (h : Omitted) → h.parts.waits ≡ false → (s t : SimState) (same : omit_machine h s ≡ omit_machine h t) (e : Event) → Known h s t same e → omit_machine h (after_event s e) ≡ omit_machine h (after_event t e)
+late_alike h shown s t same e known =
+    after_there h s t same e known (λ tells. late_same h s.state.policy shown e s.state t.state (ap (λ (x : SimState). x.state) same) refl tells)
+
 -- ---- parts of records
 
 module _ (h : Hidden) (s t : SimState) (e : Event) (same : AreSame h s t) (late : AreAsLate h s t e) where
@@ -124,7 +130,7 @@ events_dont_depend h s t e unread same late = answers h s t e same late (parts_t
 
 -- so they do where no callback that one of them calls asks for it
 pub calls_dont_depend : CallsDontDepend
-calls_dont_depend h s t e asks same late = answers h s t e same late (inr (parts_asked h (calls_of s e) asks))
+calls_dont_depend h s t e asks same late = answers h s t e same late (inr (own_of_all (IsTold (parts_alone h)) s.state.policy (calls_of s e) (parts_asked h (calls_of s e) asks)))
 
 -- and a list of events
 pub lists_dont_depend : ListsDontDepend
@@ -160,4 +166,4 @@ events_tell_no_idle_slices s t e tells same =
 
 -- so they do where no callback that one of them calls tells such a slice
 pub calls_tell_no_idle_slices : CallsTellNoIdleSlices
-calls_tell_no_idle_slices s t e asks same = answers_sliceless s t e same (inr (slices_asked any_task (calls_of s e) asks))
+calls_tell_no_idle_slices s t e asks same = answers_sliceless s t e same (inr (own_of_all (IsTold (slices_alone any_task)) s.state.policy (calls_of s e) (slices_asked any_task (calls_of s e) asks)))

@@ -18,11 +18,11 @@ use Rattle.scx_vm.specs.Host.{answer_to, after_query}
 use Rattle.scx_vm.specs.Programs.{VerifiedProgram}
 use Rattle.scx_sched_world.specs.World.{WorldState}
 use Rattle.scx_sched_world.specs.Helpers.{world_functions}
-use Rattle.scx_sched_policy.specs.Policy.{program_of}
+use Rattle.scx_sched_policy.specs.Policy.{PolicyState, program_of}
 use Rattle.scx_sched_machine.specs.Steps.{CallMade}
 use Rattle.scx_explore_states.specs.Asking.{LoadsNo, GivesOne}
 use Rattle.scx_explore_states.proofs.Queries.{StepsOpen, MayAskAt, of_step}
-use Rattle.scx_explore_findings.specs.Asked.{StepAnyhow, AnyhowWithin, AsksAnyhow, IfAsksAnyhow, StepAsks, AsksWithin, CallAsks, CallsAsk}
+use Rattle.scx_explore_findings.specs.Asked.{StepAnyhow, AnyhowWithin, AsksAnyhow, IfAsksAnyhow, StepAsks, AsksWithin, CallAsks, CallsAsk, OwnCallsAsk}
 use Rattle.scx_explore_findings.specs.Hidden.{Hidden}
 use Rattle.scx_explore_findings.specs.Unread.{is_hidden_field, ReadsNone, may_read, IsUnread, SuchProgramsReadNone}
 use Rattle.scx_explore_findings.specs.IdleSlices.{is_idle, is_slice, loads_slice, LoadsBusy, TellsNoSlice, SuchProgramsTellNoSlices}
@@ -76,6 +76,16 @@ module _ (P R : WorldState → Query → Type 0) (is : (w : WorldState) (q : Que
   pub calls_more : (cs : List CallMade) → CallsAsk P cs → CallsAsk R cs
   calls_more [] a = tt
   calls_more (c ∷ cs) a = (λ n. asks_more c.callback c.program.code n 0 (start (program_arguments c.arguments) c.maps) c.world (a.0 n), calls_more cs a.1)
+
+  -- and those of a policy
+  pub own_calls_more : (p : PolicyState) (cs : List CallMade) → OwnCallsAsk P p cs → OwnCallsAsk R p cs
+  own_calls_more p [] a = tt
+  own_calls_more p (c ∷ cs) a = (λ own n. asks_more c.callback c.program.code n 0 (start (program_arguments c.arguments) c.maps) c.world (a.0 own n), own_calls_more p cs a.1)
+
+-- if all calls ask such queries alone, those of a policy do
+pub own_of_all : (P : WorldState → Query → Type 0) (p : PolicyState) (cs : List CallMade) → CallsAsk P cs → OwnCallsAsk P p cs
+own_of_all P p [] a = tt
+own_of_all P p (c ∷ cs) a = (λ own. a.0, own_of_all P p cs a.1)
 
 -- what holds of each query a run asks alone
 module _ (P : Query → Type 0) (all : (q : Query) → P q) where
@@ -147,7 +157,7 @@ pub such_programs_tell_no_slices : SuchProgramsTellNoSlices
 such_programs_tell_no_slices c code none given n a maps =
     asks_both (LoadsNo Slice) GivesOne c code n 0 (start a maps) (asks_by_code (LoadsNo Slice) (λ t f k. tt) c code (λ slot. slices_by_code c (at code slot) (none slot)) n 0 (start a maps)) (given n a maps)
 
-busy_load : (w : WorldState) (q : Query) → LoadsNo Slice q → LoadsBusy w q
+pub busy_load : (w : WorldState) (q : Query) → LoadsNo Slice q → LoadsBusy w q
 busy_load w (Load t Slice) e = absurd (apart e)
 busy_load w (Load t f) e = tt
 busy_load w (Call f a) e = tt
@@ -211,11 +221,14 @@ module _ (h : Omitted) where
       started : CallMade → Machine
       started x = start (program_arguments x.arguments) x.maps
 
-  pub calls_there : (cs ds : List CallMade) → map (omit_call h) cs ≡ map (omit_call h) ds → CallsAsk (IsTold h) cs → CallsAsk (IsTold h) ds
-  calls_there [] [] same asks = tt
-  calls_there [] (d ∷ ds) same asks = absurd (cc)
-  calls_there (c ∷ cs) [] same asks = absurd (cc)
-  calls_there (c ∷ cs) (d ∷ ds) same asks = (call_there c d (first same) asks.0, calls_there cs ds (rest same) asks.1)
+  pub calls_there : (p : PolicyState) (cs ds : List CallMade) → map (omit_call h) cs ≡ map (omit_call h) ds → OwnCallsAsk (IsTold h) p cs → OwnCallsAsk (IsTold h) p ds
+  calls_there p [] [] same asks = tt
+  calls_there p [] (d ∷ ds) same asks = absurd (cc)
+  calls_there p (c ∷ cs) [] same asks = absurd (cc)
+  calls_there p (c ∷ cs) (d ∷ ds) same asks = (
+    λ own. call_there c d (first same) (asks.0 (subst (λ (x : CallMade). program_of p x.callback ≡ Some x.program) (sym (first same)) own)),
+    calls_there p cs ds (rest same) asks.1,
+  )
     where
       first : omit_call h c ∷ map (omit_call h) cs ≡ omit_call h d ∷ map (omit_call h) ds → omit_call h c ≡ omit_call h d
       first e = cc

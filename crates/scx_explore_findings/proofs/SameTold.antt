@@ -7,6 +7,7 @@ use Rattle.std.proofs.lemmas.List.Elements.{All-get_or}
 use Rattle.scx_dsq.specs.declared.entries.Entry.{Entry}
 use Rattle.scx_dsq.specs.Laws as queues
 use Rattle.scx_dsq.specs.Queues.{entry_of}
+use Rattle.scx_isa_semantics.specs.Effects.{Query}
 use Rattle.scx_maps.specs.declared.shape.Shape.{Shape}
 use Rattle.scx_weights.specs.declared.group.Group.{Group}
 use Rattle.scx_weights.specs.Hierarchy.{Hierarchy}
@@ -18,6 +19,7 @@ use Rattle.scx_sched_world.specs.declared.notes.Note.{Note}
 use Rattle.scx_sched_world.specs.declared.timers.Alarm.{Alarm}
 use Rattle.scx_sched_world.specs.World.{WorldState, are_linux, nothing_passes, task_at, waits_in, wait, is_this, cpu_of}
 use Rattle.scx_sched_world.specs.Tasks.{with_slice}
+use Rattle.scx_sched_policy.specs.Policy.{PolicyState}
 use Rattle.scx_sched.specs.Once.{IsOnce, IsSound}
 use Rattle.scx_sched.specs.Ranges.{IsFresh}
 use Rattle.scx_sched.specs.Sim.{SimState}
@@ -34,7 +36,7 @@ use Rattle.scx_explore_findings.specs.Hidden.{Hidden, unless, since_unless, hidd
 use Rattle.scx_explore_findings.specs.HiddenMachines.{hide_machine}
 use Rattle.scx_explore_findings.specs.UnreadParts.{AreSame}
 use Rattle.scx_explore_findings.specs.FifoOnly.{InsertInOrder}
-use Rattle.scx_explore_findings.specs.WholeForms.{DrawNone, IsWhole, IsPlain, IsSince, IsTidy, AreMapsOf}
+use Rattle.scx_explore_findings.specs.WholeForms.{DrawNone, IsWholeBy, IsPlain, IsSince, IsTidy, AreMapsOf}
 use Rattle.scx_explore_findings.specs.IdleSlices as idle
 use Rattle.scx_explore_findings.specs.IdleSlices.{runs_on, is_put_nowhere, is_idle_of, sliceless_if, without_slices, any_task}
 use Rattle.scx_explore_findings.proofs.IdleRecords.{read_at, length_same}
@@ -172,7 +174,7 @@ some_later d (Some n) = refl
 -- ---- slices of tasks that sleep or are held
 
 -- the records of tasks, without such slices where that is so wanted
-abbrev rested : Bool → WorldState → List Task
+abbrev pub rested : Bool → WorldState → List Task
 rested less w = if less then without_slices (is_idle_of any_task w) w.tasks else w.tasks
 
 -- a machine with these records
@@ -229,7 +231,7 @@ row_is ids w once k = go (cpu_of w k) refl
 
 -- ---- two machines
 
-module _ (shapes : List Shape) (root : SimState) (plain : IsPlain root) (f : Form) (ids xs : List ℕ) (whole : IsWhole root.state.policy f) (few : length ids ≤ most_queues) (s t : SimState) (hs : IsSuited shapes root s) (ht : IsSuited shapes root t) (is : IsWritten f ids xs s) (it : IsWritten f ids xs t) where
+module _ (Ask : (Query → Type 0) → PolicyState → Type 0) (shapes : List Shape) (root : SimState) (plain : IsPlain root) (f : Form) (ids xs : List ℕ) (whole : IsWholeBy Ask root.state.policy f) (few : length ids ≤ most_queues) (s t : SimState) (hs : IsSuited shapes root s) (ht : IsSuited shapes root t) (is : IsWritten f ids xs s) (it : IsWritten f ids xs t) where
   abbrev v : WorldState
   v = s.state.world
 

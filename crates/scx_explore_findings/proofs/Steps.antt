@@ -25,7 +25,7 @@ use Rattle.scx_sched_machine.specs.Callbacks.{call_ending, after_callback, calls
 use Rattle.scx_sched_machine.specs.Put.{enters, enqueue_choice, enters_builtin, comes_in, put}
 use Rattle.scx_sched_machine.specs.Filling.{move_note, fill}
 use Rattle.scx_sched_machine.specs.Parking.{park, if_throttled, throttled_front, park_then, park_next, clear, in_reach, supply}
-use Rattle.scx_explore_findings.specs.Asked.{IfAsksAnyhow, AskAnyhow, CallsAsk}
+use Rattle.scx_explore_findings.specs.Asked.{IfAsksAnyhow, AskAnyhow, OwnCallsAsk}
 use Rattle.scx_explore_findings.specs.Unread.{ReadsNone}
 use Rattle.scx_sched_machine.proofs.Choices.{keeps_if}
 use Rattle.std.proofs.lemmas.Bool.{eqb-true}
@@ -80,9 +80,9 @@ eject_wants s x =
     cut_forgets (suc n) w h = let v = after_cut n w in task_forgets (running v n) v (cut_forgets n w h)
 
 module _ (h : Omitted) (p : PolicyState) where
-  -- no callback that is called asks for anything that is left out
+  -- no callback that is called asks for anything that is left out, if its program is the policy's
   abbrev pub AskNone : List CallMade → Type 0
-  AskNone cs = CallsAsk (IsTold h) cs
+  AskNone cs = OwnCallsAsk (IsTold h) p cs
 
   -- no program of the policy does, or none that is called in one of two steps
   abbrev pub Tells : Stepped → Stepped → Type 0
@@ -136,7 +136,7 @@ module _ (h : Omitted) (p : PolicyState) where
 
   -- steps with the same calls but for what is left out
   calls_as : (r q : Stepped) → omit_step h r ≡ omit_step h q → AskNone r.calls → AskNone q.calls
-  calls_as r q e a = calls_there h r.calls q.calls (ap (λ (x : Stepped). x.calls) e) a
+  calls_as r q e a = calls_there h p r.calls q.calls (ap (λ (x : Stepped). x.calls) e) a
 
   -- ---- how steps are made of others
 
@@ -282,23 +282,31 @@ module _ (h : Omitted) (p : PolicyState) where
     where
       of_program : (o : Option VerifiedProgram) → IfAsksAnyhow (ReadsNone h.parts) b o → IfAny h.idle (IfAsksAnyhow TellsNoSlice b o) → AsksIn o b a s.maps w
       of_program None unread told = tt
-      of_program (Some q) unread told = (λ n. program_tells h b q.code unread told n (program_arguments a) s.maps w, tt)
+      of_program (Some q) unread told = (λ own n. program_tells h b q.code unread told n (program_arguments a) s.maps w, tt)
 
       unless : (o : Option Eject) → AsksIn (unless_ejected o (program_of s.policy b)) b a s.maps w
       unless None = subst (λ (x : PolicyState). AsksIn (program_of x b) b a s.maps w) (sym is) (of_program (program_of p b) (tells.unread b) (if_any h.idle (λ told. told b) tells.told))
       unless (Some x) = tt
 
+  -- a program that acts is the policy's
+  own : (s : State) (b : Callback) → s.policy ≡ p → (x : VerifiedProgram) → acting s b ≡ Some x → program_of p b ≡ Some x
+  own s b is x e = sym (ap (λ (q : PolicyState). program_of q b) is) ∙ unless s.world.ejected e
+    where
+      unless : (o : Option Eject) → unless_ejected o (program_of s.policy b) ≡ Some x → program_of s.policy b ≡ Some x
+      unless None k = k
+      unless (Some y) k = absurd (cc)
+
   -- how a callback ends
-  called_same : (q : Option VerifiedProgram) (b : Callback) (a : Args) (maps : Maps) (v w : WorldState) → omit h v ≡ omit h w → AsksIn q b a maps v → omit_ending h (call_ending q b a maps v) ≡ omit_ending h (call_ending q b a maps w)
+  called_same : (q : Option VerifiedProgram) (b : Callback) → ((x : VerifiedProgram) → q ≡ Some x → program_of p b ≡ Some x) → (a : Args) (maps : Maps) (v w : WorldState) → omit h v ≡ omit h w → AsksIn q b a maps v → omit_ending h (call_ending q b a maps v) ≡ omit_ending h (call_ending q b a maps w)
   unfolding call_ending
-  called_same None b a maps v w same asks = ap (λ (x : WorldState). record { answer = Some 0; maps = maps; outside = x }) same
-  called_same (Some q) b a maps v w same asks = program_same h b q.code (program_arguments a) maps v w same asks.0
+  called_same None b of a maps v w same asks = ap (λ (x : WorldState). record { answer = Some 0; maps = maps; outside = x }) same
+  called_same (Some q) b of a maps v w same asks = program_same h b q.code (program_arguments a) maps v w same (asks.0 (of q refl))
 
   -- what it wants to insert has a slice
-  called_wants : (q : Option VerifiedProgram) (b : Callback) (a : Args) (maps : Maps) (w : WorldState) → AsksIn q b a maps w → IfAny h.idle (Wants w.call.insert) → IfAny h.idle (Wants (call_ending q b a maps w).outside.call.insert)
+  called_wants : (q : Option VerifiedProgram) (b : Callback) → ((x : VerifiedProgram) → q ≡ Some x → program_of p b ≡ Some x) → (a : Args) (maps : Maps) (w : WorldState) → AsksIn q b a maps w → IfAny h.idle (Wants w.call.insert) → IfAny h.idle (Wants (call_ending q b a maps w).outside.call.insert)
   unfolding call_ending
-  called_wants None b a maps w asks k = k
-  called_wants (Some q) b a maps w asks k = program_wants h b q.code (program_arguments a) maps w asks.0 k
+  called_wants None b of a maps w asks k = k
+  called_wants (Some q) b of a maps w asks k = program_wants h b q.code (program_arguments a) maps w (asks.0 (of q refl)) k
 
   module _ (b : Callback) (a : Args) (t c : ℕ) (s : State) (is : s.policy ≡ p) where
     -- the world as the callback begins
@@ -323,9 +331,9 @@ module _ (h : Omitted) (p : PolicyState) where
     asks_of (inr (inr k)) = inr (inr (called_first (acting s b) (omit h begun) (later_calls (omit h begun)) k))
 
     end_same : Asks → omit_ending h (call_ending (acting s b) b a s.maps begun) ≡ omit_ending h (call_ending (acting s b) b a s.maps (omit h begun))
-    end_same (inl tells) = called_same (acting s b) b a s.maps begun (omit h begun) (plain h begun) (tells_acting tells s b a begun is)
-    end_same (inr (inl k)) = called_same (acting s b) b a s.maps begun (omit h begun) (plain h begun) k
-    end_same (inr (inr k)) = sym (called_same (acting s b) b a s.maps (omit h begun) begun (sym (plain h begun)) k)
+    end_same (inl tells) = called_same (acting s b) b (own s b is) a s.maps begun (omit h begun) (plain h begun) (tells_acting tells s b a begun is)
+    end_same (inr (inl k)) = called_same (acting s b) b (own s b is) a s.maps begun (omit h begun) (plain h begun) k
+    end_same (inr (inr k)) = sym (called_same (acting s b) b (own s b is) a s.maps (omit h begun) begun (sym (plain h begun)) k)
 
     -- what it answers
     pub answered_same : Tells (call_back s b a t c) (call_back (omit_state h s) b a t c) → answered_by s b a t c ≡ answered_by (omit_state h s) b a t c
@@ -338,11 +346,11 @@ module _ (h : Omitted) (p : PolicyState) where
     noted_same tells = ap (λ (e : Ending WorldState). e.outside.notes) (end_same (asks_of tells))
 
     end_wants : Asks → IfAny h.idle (Wants (call_ending (acting s b) b a s.maps begun).outside.call.insert)
-    end_wants (inl tells) = called_wants (acting s b) b a s.maps begun (tells_acting tells s b a begun is) (inr tt)
-    end_wants (inr (inl k)) = called_wants (acting s b) b a s.maps begun k (inr tt)
+    end_wants (inl tells) = called_wants (acting s b) b (own s b is) a s.maps begun (tells_acting tells s b a begun is) (inr tt)
+    end_wants (inr (inl k)) = called_wants (acting s b) b (own s b is) a s.maps begun k (inr tt)
     end_wants (inr (inr k)) =
         if_any h.idle (subst Wants (sym (ap (λ (e : Ending WorldState). e.outside.call.insert) (end_same (inr (inr k))))))
-        (called_wants (acting s b) b a s.maps (omit h begun) k (inr tt))
+        (called_wants (acting s b) b (own s b is) a s.maps (omit h begun) k (inr tt))
 
   calls_same : (q : Option VerifiedProgram) (b : Callback) (a : Args) (maps : Maps) (w : WorldState) → map (omit_call h) (calls_of q b a maps w) ≡ map (omit_call h) (calls_of q b a maps (omit h w))
   calls_same None b a maps w = refl

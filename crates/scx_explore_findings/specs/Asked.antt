@@ -49,6 +49,18 @@ IfAsksAnyhow P c (Some p) = AsksAnyhow P c p.code
 abbrev pub AskAnyhow : (Query → Type 0) → PolicyState → Type 0
 AskAnyhow P p = (b : Callback) → IfAsksAnyhow P b (program_of p b)
 
+-- ---- in runs
+
+-- each run of a program asks such queries alone, if there is one that was verified for the
+-- callback, as long as its arguments, maps and answers fit
+abbrev pub IfAsksOnly : (Query → Type 0) → Callback → Option VerifiedProgram → Type 0
+IfAsksOnly P b None = Unit {0}
+IfAsksOnly P b (Some p) = p.context.callback ≡ b → AsksOnly P p.context p.code
+
+-- so does each run of each program of the policy
+abbrev pub AskOnly : (Query → Type 0) → PolicyState → Type 0
+AskOnly P p = (b : Callback) → IfAsksOnly P b (program_of p b)
+
 -- ---- as the world answers
 
 -- a step asks what is such in that world, if it asks, and so does what follows it
@@ -79,13 +91,28 @@ abbrev pub CallsAsk : (WorldState → Query → Type 0) → List CallMade → Ty
 CallsAsk P [] = Unit {0}
 CallsAsk P (c ∷ cs) = CallAsks P c × CallsAsk P cs
 
--- ---- laws
+-- the program that is called is the policy's
+abbrev pub IsCallOf : PolicyState → CallMade → Type 0
+IsCallOf p c = program_of p c.callback ≡ Some c.program
+
+-- each of these calls of a program of the policy asks such queries alone
+abbrev pub OwnCallsAsk :
+    (WorldState → Query → Type 0) → PolicyState → List CallMade → Type 0
+OwnCallsAsk P p [] = Unit {0}
+OwnCallsAsk P p (c ∷ cs) = (IsCallOf p c → CallAsks P c) × OwnCallsAsk P p cs
 
 -- A callback that is called runs as it was verified: its program, its arguments and its maps fit.
 pub record IsFitting (c : CallMade) : Type 0 where
   pub callback : c.program.context.callback ≡ c.callback
   pub arguments : FitsCallback c.callback (program_arguments c.arguments)
   pub shapes : HasShapes c.program.context.defs c.maps
+
+-- each of these callbacks runs to its end as it was verified
+abbrev pub RunAsVerified : List CallMade → Type 0
+RunAsVerified [] = Unit {0}
+RunAsVerified (c ∷ cs) = IsAnswered c × IsFitting c × RunAsVerified cs
+
+-- ---- laws
 
 -- if no run of its program asks for that field of a task, as long as what is answered fits, the
 -- callback doesn't

@@ -9,6 +9,7 @@ use Rattle.scx_isa_semantics.specs.declared.instructions.Insn.{Insn}
 use Rattle.scx_isa_semantics.specs.declared.instructions.Insn.TheVariants.{Call}
 use Rattle.scx_isa_semantics.specs.declared.rules.Rules.{Rules}
 use Rattle.scx_isa_semantics.specs.Code.{at}
+use Rattle.scx_isa_semantics.specs.Effects.{Query}
 use Rattle.scx_isa_semantics.specs.HostTables.{helper_at}
 use Rattle.scx_maps.specs.declared.shape.Shape.{Shape}
 use Rattle.scx_isa_semantics.specs.Elements.{Maps}
@@ -26,13 +27,14 @@ use Rattle.scx_sched.specs.Ranges.{IsFine}
 use Rattle.scx_sched.specs.Sim.{SimState}
 use Rattle.scx_sched.specs.Waits.{IsTimely}
 use Rattle.scx_explore_states.specs.declared.form.Form.{Form}
+use Rattle.scx_explore_findings.specs.Asked.{AskAnyhow, AskOnly}
 use Rattle.scx_explore_findings.specs.Between.{IsQuiet}
 use Rattle.scx_explore_findings.specs.Delayed.{AreClockless}
 use Rattle.scx_explore_findings.specs.FifoOnly.{InsertInOrder, IsInOrder}
 use Rattle.scx_explore_findings.specs.Hidden.{Hidden}
 use Rattle.scx_explore_findings.specs.HiddenLaws.{LeavesOut}
-use Rattle.scx_explore_findings.specs.HiddenMachines.{AreUnread}
-use Rattle.scx_explore_findings.specs.IdleSlices.{TellNoSlices}
+use Rattle.scx_explore_findings.specs.IdleSlices.{TellsNoSlice}
+use Rattle.scx_explore_findings.specs.Unread.{ReadsNone}
 
 -- ---- programs
 
@@ -65,21 +67,35 @@ pub record TellsNoTime (p : PolicyState) : Type 0 where
 -- the form keeps everything that a program of the policy can read: it leaves out the number of
 -- pushes, and at most the clock where no program tells the time, slices of tasks that sleep or are
 -- held where none tells them, keys where none inserts a task by one, the random number where none
--- draws one, and run times and virtual times that none loads
-pub record IsWhole (p : PolicyState) (f : Form) : Type 0 where
+-- draws one, and run times and virtual times that none loads. That none tells or loads these is
+-- said of programs in that way.
+pub record IsWholeBy
+    (Ask : (Query → Type 0) → PolicyState → Type 0) (p : PolicyState) (f : Form) : Type 0 where
   pub clock : (f.clock ≡ true) ⊎ TellsNoTime p
   pub pushes : f.pushes ≡ false
   pub waits : f.waits ≡ true
-  pub idle_slices : (f.idle_slices ≡ true) ⊎ TellNoSlices p
+  pub idle_slices : (f.idle_slices ≡ true) ⊎ Ask TellsNoSlice p
   pub keys : (f.keys ≡ true) ⊎ InsertInOrder p
   pub hidden : Hidden
   pub waits_stay : hidden.waits ≡ false
-  pub unread : AreUnread hidden p
+  pub unread : Ask (ReadsNone hidden) p
   pub left_out : LeavesOut f hidden
   pub vtime : hidden.vtime ≡ false → f.vtime ≡ true
   pub run_ns : hidden.run_ns ≡ false → f.run_ns ≡ true
   pub random : (f.random ≡ true) ⊎ DrawNone p
   pub names : f.names ≡ true
+
+-- whatever programs are given and answered
+abbrev pub IsWhole : PolicyState → Form → Type 0
+IsWhole p f = IsWholeBy AskAnyhow p f
+
+-- in each run of a program that was verified, as long as what it is given and answered fits
+abbrev pub IsWholeInRuns : PolicyState → Form → Type 0
+IsWholeInRuns p f = IsWholeBy AskOnly p f
+
+-- a form that is whole is so in each run
+abbrev pub WholeFormsAreSoInRuns : Type 0
+WholeFormsAreSoInRuns = (p : PolicyState) (f : Form) → IsWhole p f → IsWholeInRuns p f
 
 -- the machine goes by plain rules, and has no timers, and at most eight tasks and sixteen CPUs
 pub record IsPlain (root : SimState) : Type 0 where

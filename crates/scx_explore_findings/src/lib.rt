@@ -7,10 +7,7 @@
 //! runs. `replay` tells the first event of a list at which the policy is ejected. A `Pool` has machines that take over
 //! from one another.
 //!
-//! Five reductions of a search are laws about the machine, each the contract of a function that does nothing. If no
-//! program loads run times or virtual times, or lists are too short for a stall, two machines that differ in these, or in
-//! how long tasks wait, show the same. If no program inserts by a virtual time, no task waits by one. If none reads the
-//! clock, no event depends on it.
+//! Definitions and lemmas say which parts of a machine change nothing that is looked for. `scx_explore_audit` has the laws.
 #![tactic(auto)]
 
 mod checks;
@@ -18,7 +15,7 @@ mod copies;
 mod count;
 mod counted;
 mod finding;
-mod laws;
+mod heard;
 mod outcome;
 mod path;
 mod pool;
@@ -30,11 +27,7 @@ pub use checks::{exit_of, fault_of, idle_in, stall_of};
 pub use copies::copies_of;
 pub use counted::run_counted;
 pub use finding::{Finding, Pair, SORTS, Sort};
-pub use laws::{
-    asking_decides, events_dont_depend, events_leave_no_notes, lists_dont_depend, nobody_is_late,
-    nobody_waits_by_vtime, reached_states_go_alike, same_machines_show_the_same,
-    unread_parts_change_nothing, words_dont_depend,
-};
+pub use heard::Heard;
 pub use outcome::{Outcome, replay};
 pub use path::Path;
 pub use pool::Pool;

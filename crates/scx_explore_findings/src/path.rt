@@ -1,12 +1,13 @@
 ghost use Rattle.std.specs.Prelude.{◌≡◌, ◌≤◌, ◌<◌, true, [], length, take, slice_index_or, slice_set, All, IfOk, IfErr, OnOk};
+ghost use Rattle.scx_sched_machine.specs.Hearing.{Hears};
 ghost use Rattle.scx_sched_machine.specs.Notes.{Takes};
 ghost use Rattle.scx_sched_machine.specs.declared.events.Event.{Event};
-ghost use Rattle.scx_sched.specs.Sim.{refusal, answer_of, after_event, notes_of};
+ghost use Rattle.scx_sched.specs.Sim.{refusal, answer_of, after_event, notes_of, calls_of};
 ghost use Rattle.scx_load_driver.specs.Runs.{stepped_all, AreAccepted};
 ghost use Rattle.scx_explore_findings.specs.Path.{IsAs, machine_of, went_back, went_on, last_of, IsRefusedBehind, SharesBeginning};
 
 use crate::copies::copies_of;
-use scx_sched::{Event, Refused, Sim, Sink, Unseen};
+use scx_sched::{Event, Hearer, Refused, Sim, Unseen};
 use std::alloc::{AllocError, Global};
 use std::marker::Model;
 
@@ -89,15 +90,19 @@ impl Path {
         self.events.truncate(depth);
     }
 
-    /// Appends the event to the list. One that is refused changes nothing, and has no notes.
-    pub fn go_on<S: Sink>(&mut self, event: Event, sink: &mut S) -> Result<(), Refused>
+    /// Appends the event to the list. One that is refused changes nothing, and has no notes. Its callbacks are told to the
+    /// hearer.
+    pub fn go_on<H: Hearer>(&mut self, event: Event, hearer: &mut H) -> Result<(), Refused>
         requires { length self.old.events < self.old.room }
         ensures answer { result ≡ answer_of (refusal (machine_of self.old) event) }
         ensures list { self.new ≡ went_on self.old event }
-        ensures notes { Takes S.takes sink.old (notes_of (machine_of self.old) event) sink.new }
+        ensures notes { Takes H.takes (H.noted hearer.old)
+            (notes_of (machine_of self.old) event) (H.noted hearer.new) }
+        ensures calls { Hears H.hears (H.told hearer.old)
+            (calls_of (machine_of self.old) event) (H.told hearer.new) }
     {
         let depth = self.events.len();
-        match step_from(&self.root, self.sims.as_mut_slice(), depth, event, sink) {
+        match step_from(&self.root, self.sims.as_mut_slice(), depth, event, hearer) {
             Ok(()) => {
                 self.events.push_reserved(event);
                 Ok(())
@@ -137,25 +142,33 @@ fn last_of<'a>(root: &'a Sim, before: &'a [Sim]) -> &'a Sim
 }
 
 /// The second machine becomes the first one, and has the event.
-fn step_copy<S: Sink>(from: &Sim, sim: &mut Sim, event: Event, sink: &mut S) -> Result<(), Refused>
+fn step_copy<H: Hearer>(
+    from: &Sim,
+    sim: &mut Sim,
+    event: Event,
+    hearer: &mut H,
+) -> Result<(), Refused>
     requires { IsAs sim.old from.now }
     ensures answer { result ≡ answer_of (refusal from.now event) }
     ensures state { sim.new ≡ after_event from.now event }
-    ensures notes { Takes S.takes sink.old (notes_of from.now event) sink.new }
+    ensures notes { Takes H.takes (H.noted hearer.old) (notes_of from.now event)
+        (H.noted hearer.new) }
+    ensures calls { Hears H.hears (H.told hearer.old) (calls_of from.now event)
+        (H.told hearer.new) }
     ensures alike { IsAs from.now sim.new }
 {
     sim.copy_from(from);
-    sim.step(event, sink)
+    sim.step_heard(event, hearer)
 }
 
 /// The machine at that place becomes the one before it, which is the root at the first place, and has the
 /// event. All others stay.
-fn step_from<S: Sink>(
+fn step_from<H: Hearer>(
     root: &Sim,
     sims: &mut [Sim],
     place: usize,
     event: Event,
-    sink: &mut S,
+    hearer: &mut H,
 ) -> Result<(), Refused>
     requires there { place < length sims.old }
     requires alike { All (IsAs root.now) sims.old }
@@ -163,12 +176,14 @@ fn step_from<S: Sink>(
         (refusal (last_of root.now (take place sims.old)) event) }
     ensures sims { sims.new ≡ slice_set sims.old place
         (after_event (last_of root.now (take place sims.old)) event) }
-    ensures notes { Takes S.takes sink.old
-        (notes_of (last_of root.now (take place sims.old)) event) sink.new }
+    ensures notes { Takes H.takes (H.noted hearer.old)
+        (notes_of (last_of root.now (take place sims.old)) event) (H.noted hearer.new) }
+    ensures calls { Hears H.hears (H.told hearer.old)
+        (calls_of (last_of root.now (take place sims.old)) event) (H.told hearer.new) }
     ensures alike { All (IsAs root.now) sims.new }
 {
     let (before, rest) = sims.split_at_mut(place);
-    step_copy(last_of(root, before), &mut rest[0], event, sink)
+    step_copy(last_of(root, before), &mut rest[0], event, hearer)
 }
 
 /// True if that event is at that place of the list.

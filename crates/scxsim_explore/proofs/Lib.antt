@@ -2,4 +2,5 @@ mod Copies
 mod Ended
 mod Named
 mod Started
+mod KeptWhole
 mod Told

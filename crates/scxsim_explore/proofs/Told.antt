@@ -24,6 +24,7 @@ use Rattle.scxsim_explore.specs.Words.{IsBoundsOf, IsPast, limit_line}
 use Rattle.scxsim_explore.specs.Telling.{HasFile, IsShown, IsTold, IsAnswer}
 use Rattle.scxsim_explore.specs.Lists.{Adds, HasLists, HasTold}
 use Rattle.scxsim_explore.specs.Beginning.{IsReady}
+use Rattle.scxsim_explore.proofs.KeptWhole.{keeps_all_read}
 
 -- no list
 pub told_nothing : (m : Mode) (w : WorkloadState) (s : SimState) (a : Option (List ℕ)) → HasTold m w s a a
@@ -102,9 +103,9 @@ file_kept {X} bytes m w s events (Err e) file has is none = subst (λ (x : Optio
 pub explored : (policy workload : List ℕ) (l : Lists) (b : Bounds) (w : WorkloadState) (s : SimState) (form : Form) (whole : Bool) (old new : Option (List ℕ))
     → IsBoundsOf l b → IsReady policy workload b w s form → IsTold form w s b whole old new → IsAnswer whole policy workload l old new
 explored policy workload l b w s form true old new named ready told =
-    (b, named, record { of_workload = w; first = s; run = ready.run; within = ready.within; form = form; of_policy = ready.of_policy; told = told })
+    (b, named, record { of_workload = w; first = s; run = ready.run; within = ready.within; form = form; of_policy = ready.of_policy; keeps = keeps_all_read policy workload b w s form ready.run ready.of_policy; told = told })
 explored policy workload l b w s form false old new named ready told =
-    inr (b, named, record { of_workload = w; first = s; run = ready.run; within = ready.within; form = form; of_policy = ready.of_policy; told = told })
+    inr (b, named, record { of_workload = w; first = s; run = ready.run; within = ready.within; form = form; of_policy = ready.of_policy; keeps = keeps_all_read policy workload b w s form ready.run ready.of_policy; told = told })
 
 -- so is the line of a limit that is passed
 pub limited : (policy workload : List ℕ) (l : Lists) (past : Limit) (old new : Option (List ℕ)) (r : Result Bool Fault) → IsPast policy workload l past

@@ -10,6 +10,7 @@ use Rattle.scxsim_trace.specs.Lines.{NameLists, names_of}
 use Rattle.scx_explore_findings.specs.declared.finding.Sort.{Sort}
 use Rattle.scx_explore_findings.specs.declared.finding.Sort.TheVariants as sort
 use Rattle.scx_explore_findings.specs.Findings.{Shows, sort_of}
+use Rattle.scx_explore_findings.specs.WholeForms.{IsWholeInRuns}
 use Rattle.scx_explore_bounds.specs.Events.{most_events}
 use Rattle.scx_explore_bounds.specs.declared.bounds.Bounds.{Bounds}
 use Rattle.scx_explore_bounds.specs.declared.bounds.Mode.{Mode}
@@ -17,7 +18,7 @@ use Rattle.scx_explore_bounds.specs.declared.bounds.Mode.TheVariants as mode
 use Rattle.scx_explore_states.specs.declared.form.Form.{Form}
 use Rattle.scx_explore_audit.specs.declared.table.Moves.{Moves}
 use Rattle.scx_explore_audit.specs.declared.table.Moves.TheVariants as moves
-use Rattle.scx_explore_audit.specs.Closed.{AreNumbersOf, Respects}
+use Rattle.scx_explore_audit.specs.Closed.{AreNumbersOf, RespectsRuns}
 use Rattle.scx_explore_audit.specs.Laws.{NoneIn}
 use Rattle.scx_explore_audit.specs.Whole.{NeedsNoPremise}
 use Rattle.scx_load_replay.specs.WorkloadFiles.{IsFileOf}
@@ -63,11 +64,11 @@ HasNoChanges mode.Workloads w = ⊤
 
 -- With that form and numbers of the machine's queues, no list of such moves shows anything of these
 -- sorts, of any number of moves or up to the limit, if what the form leaves out of a state changes
--- nothing in runs of fewer events than `room`.
+-- nothing in runs of fewer events than `room`, where callbacks run as they were verified.
 abbrev pub IsSureBy : Form → Moves → Option ℕ → List Sort → SimState → ℕ → Type 0
 IsSureBy form moves limit sorts first room =
     (ids : List ℕ) × AreNumbersOf first ids
-    × (Respects form ids moves sorts first room → NoneIn moves limit sorts first)
+    × (RespectsRuns form ids moves sorts first room → NoneIn moves limit sorts first)
 
 -- This is sure with a room no greater than the most events of a list within the bounds.
 pub record IsSure
@@ -168,10 +169,22 @@ pub record IsTold
     pub reach : IsReach b w depths nones
     pub again : IfSome nones.again (IsGoneThrough form w first nones)
 
+-- In lists of milliseconds the form keeps all that the policy's programs can read in their runs, if
+-- slices end exactly, and it keeps slices of tasks that sleep or are held where a program loads
+-- one.
+abbrev pub KeepsAllRead :
+    (policy : List ℕ) (b : Bounds) (first : SimState) (form : Form)
+    → IsFormFrom policy b first form → Type 0
+KeepsAllRead policy b first form f =
+    b.mode ≡ mode.Milliseconds
+    → first.state.policy.tick_ms ≡ 0
+    → (f.of_policy.form.uses.slice ≡ true → form.idle_slices ≡ true)
+    → IsWholeInRuns first.state.policy form
+
 -- The output has the summary, lists within the bounds, each with its events and its trace, and a
 -- last line if memory ran out meanwhile. The machine of the texts accepts each list, and the list
 -- ends in what is said of it. States have the form that the policy's programs decide, as it suits
--- the machine, which is past no limit.
+-- the machine, which is past no limit; in milliseconds it leaves out nothing that these can read.
 pub record IsExplored
     (policy workload : List ℕ) (b : Bounds) (whole : Bool) (old new : Option (List ℕ)) : Type 0
   where
@@ -181,6 +194,7 @@ pub record IsExplored
     pub within : IsWithin b of_workload first
     pub form : Form
     pub of_policy : IsFormFrom policy b first form
+    pub keeps : KeepsAllRead policy b first form of_policy
     pub told : IsTold form of_workload first b whole old new
 
 -- the line of a limit is written that a word or the run of the texts is past

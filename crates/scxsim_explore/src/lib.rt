@@ -14,5 +14,6 @@ mod telling;
 mod watcher;
 
 pub use exploring::explore;
-pub use limits::Lists;
+pub use limits::{Lists, MOST_BYTES, MOST_CPUS};
+pub use scx_explore::MOST_TASKS;
 pub use watcher::{Unwatched, Watcher};

@@ -6,10 +6,10 @@ use scx_load_workloads::{Workload, numeral};
 use scx_sched::Sim;
 
 /// The most CPUs of a machine that is explored.
-const MOST_CPUS: u32 = 4;
+pub const MOST_CPUS: u32 = 4;
 
 /// The most bytes that a policy's maps may have.
-const MOST_BYTES: usize = 1_048_576;
+pub const MOST_BYTES: usize = 1_048_576;
 
 /// The most events of a list.
 const MOST_EVENTS: u32 = 64;

@@ -1,5 +1,9 @@
 use Rattle.scx_explore_audit.proofs.Computed.{computed_forms_are_whole}
+use Rattle.scx_explore_audit.proofs.InRuns.{computed_forms_are_whole_in_runs}
 use Rattle.scx_explore_audit.proofs.laws.computed_forms_are_whole.Goals as goal
 
-pub returns : goal.returns
-returns c = computed_forms_are_whole
+pub returns-clause-anyhow : goal.returns-clause-anyhow
+returns-clause-anyhow c = computed_forms_are_whole
+
+pub returns-clause-runs : goal.returns-clause-runs
+returns-clause-runs c = computed_forms_are_whole_in_runs

@@ -1,5 +1,8 @@
-use Rattle.scx_explore_audit.proofs.Wholly.{whole_forms_are_respected}
+use Rattle.scx_explore_audit.proofs.Wholly.{forms_whole_in_runs_are_respected, whole_forms_are_respected}
 use Rattle.scx_explore_audit.proofs.laws.whole_forms_are_respected.Goals as goal
 
-pub returns : goal.returns
-returns c = whole_forms_are_respected
+pub returns-clause-anyhow : goal.returns-clause-anyhow
+returns-clause-anyhow c = whole_forms_are_respected
+
+pub returns-clause-runs : goal.returns-clause-runs
+returns-clause-runs c = forms_whole_in_runs_are_respected

@@ -6,4 +6,4 @@ use Rattle.scx_explore_findings.proofs.path.step_copy.Goals as goal
 
 pub returns-clause-alike : goal.returns-clause-alike
 returns-clause-alike g c =
-    subst (λ (s : SimState). IsAs s c.step.new.self) c.copy_from.ensures (as_stepped c.copy_from.new.self c.args.event c.step.new.self c.step.result c.step.ensures.answer c.step.ensures.state c.step.ensures.decided)
+    subst (λ (s : SimState). IsAs s c.step_heard.new.self) c.copy_from.ensures (as_stepped c.copy_from.new.self c.args.event c.step_heard.new.self c.step_heard.result c.step_heard.ensures.answer c.step_heard.ensures.state c.step_heard.ensures.decided)

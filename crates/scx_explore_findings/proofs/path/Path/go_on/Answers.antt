@@ -1,6 +1,7 @@
 use Rattle.std.proofs.Common.{take, ap, ◌∙◌, subst, arith}
+use Rattle.scx_sched_machine.specs.Hearing.{Hears}
 use Rattle.scx_sched_machine.specs.Notes.{Takes}
-use Rattle.scx_sched.specs.Sim.{SimState, refusal, answer_of, notes_of}
+use Rattle.scx_sched.specs.Sim.{SimState, refusal, answer_of, notes_of, calls_of}
 use Rattle.scx_explore_findings.specs.Path.{last_of}
 use Rattle.scx_explore_findings.proofs.Replaying.{is_accepted, is_refused}
 use Rattle.scx_explore_findings.proofs.PathFields.{from_last, shown, shown_many, along_still, along_further, view_further, view_still}
@@ -25,7 +26,11 @@ returns-in-Ok-clause-list g c =
 
 pub returns-in-Ok-clause-notes : goal.returns-in-Ok-clause-notes
 returns-in-Ok-clause-notes g c =
-    subst (λ (s : SimState). Takes g.S.Sink.takes c.args.sink.now (notes_of s c.args.event) c.step_from.new.sink) (from_last c.self.inside c.args.self.now c.self.view_is c.self.invariant c.args.event c.len-depth.result (omega (arith, c.len-depth.ensures, c.self.inside.events.ok.0)) c.as_mut_slice.result.now c.step_from.new.sims c.as_mut_slice.ensures.value c.step_from.ensures.sims) c.step_from.ensures.notes
+    subst (λ (s : SimState). Takes g.H.Hearer.takes (g.H.Hearer.noted c.args.hearer.now) (notes_of s c.args.event) (g.H.Hearer.noted c.step_from.new.hearer)) (from_last c.self.inside c.args.self.now c.self.view_is c.self.invariant c.args.event c.len-depth.result (omega (arith, c.len-depth.ensures, c.self.inside.events.ok.0)) c.as_mut_slice.result.now c.step_from.new.sims c.as_mut_slice.ensures.value c.step_from.ensures.sims) c.step_from.ensures.notes
+
+pub returns-in-Ok-clause-calls : goal.returns-in-Ok-clause-calls
+returns-in-Ok-clause-calls g c =
+    subst (λ (s : SimState). Hears g.H.Hearer.hears (g.H.Hearer.told c.args.hearer.now) (calls_of s c.args.event) (g.H.Hearer.told c.step_from.new.hearer)) (from_last c.self.inside c.args.self.now c.self.view_is c.self.invariant c.args.event c.len-depth.result (omega (arith, c.len-depth.ensures, c.self.inside.events.ok.0)) c.as_mut_slice.result.now c.step_from.new.sims c.as_mut_slice.ensures.value c.step_from.ensures.sims) c.step_from.ensures.calls
 
 pub invariant_of-self-in-Err : goal.invariant_of-self-in-Err
 invariant_of-self-in-Err g c = record {
@@ -46,4 +51,8 @@ returns-in-Err-clause-list g c =
 
 pub returns-in-Err-clause-notes : goal.returns-in-Err-clause-notes
 returns-in-Err-clause-notes g c =
-    subst (λ (s : SimState). Takes g.S.Sink.takes c.args.sink.now (notes_of s c.args.event) c.step_from.new.sink) (from_last c.self.inside c.args.self.now c.self.view_is c.self.invariant c.args.event c.len-depth.result (omega (arith, c.len-depth.ensures, c.self.inside.events.ok.0)) c.as_mut_slice.result.now c.step_from.new.sims c.as_mut_slice.ensures.value c.step_from.ensures.sims) c.step_from.ensures.notes
+    subst (λ (s : SimState). Takes g.H.Hearer.takes (g.H.Hearer.noted c.args.hearer.now) (notes_of s c.args.event) (g.H.Hearer.noted c.step_from.new.hearer)) (from_last c.self.inside c.args.self.now c.self.view_is c.self.invariant c.args.event c.len-depth.result (omega (arith, c.len-depth.ensures, c.self.inside.events.ok.0)) c.as_mut_slice.result.now c.step_from.new.sims c.as_mut_slice.ensures.value c.step_from.ensures.sims) c.step_from.ensures.notes
+
+pub returns-in-Err-clause-calls : goal.returns-in-Err-clause-calls
+returns-in-Err-clause-calls g c =
+    subst (λ (s : SimState). Hears g.H.Hearer.hears (g.H.Hearer.told c.args.hearer.now) (calls_of s c.args.event) (g.H.Hearer.told c.step_from.new.hearer)) (from_last c.self.inside c.args.self.now c.self.view_is c.self.invariant c.args.event c.len-depth.result (omega (arith, c.len-depth.ensures, c.self.inside.events.ok.0)) c.as_mut_slice.result.now c.step_from.new.sims c.as_mut_slice.ensures.value c.step_from.ensures.sims) c.step_from.ensures.calls

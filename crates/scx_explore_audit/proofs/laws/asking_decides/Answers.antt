@@ -2,7 +2,7 @@ use Rattle.scx_explore_findings.proofs.Answered.{answered_calls_load_none, answe
 use Rattle.scx_explore_findings.proofs.Loads.{loads_are_told}
 use Rattle.scx_explore_findings.proofs.Machines.{calls_dont_depend, calls_tell_no_idle_slices}
 use Rattle.scx_explore_findings.proofs.Runs.{such_programs_read_none, such_programs_tell_no_slices}
-use Rattle.scx_explore_findings.proofs.laws.asking_decides.Goals as goal
+use Rattle.scx_explore_audit.proofs.laws.asking_decides.Goals as goal
 
 pub returns-clause-loads : goal.returns-clause-loads
 returns-clause-loads c = loads_are_told

@@ -3,7 +3,7 @@ use Rattle.scx_explore_findings.proofs.GivenSlices.{such_programs_give_slices}
 use Rattle.scx_explore_findings.proofs.Machines.{events_tell_no_idle_slices}
 use Rattle.scx_explore_findings.proofs.SameMachines.{events_read_no_such_part, lists_read_no_such_part}
 use Rattle.scx_explore_findings.proofs.SameShown.{such_parts_show_nothing}
-use Rattle.scx_explore_findings.proofs.laws.unread_parts_change_nothing.Goals as goal
+use Rattle.scx_explore_audit.proofs.laws.unread_parts_change_nothing.Goals as goal
 
 pub returns-clause-event : goal.returns-clause-event
 returns-clause-event c = events_read_no_such_part
