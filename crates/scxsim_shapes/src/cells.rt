@@ -1,5 +1,6 @@
 use crate::drawing::Picture;
-use scxsim_layout::{Band, LEFT, LEVELS, Level, Levels, Row, Scale, Shade, Sheet};
+use scxsim_layout::{Band, LEFT, Row, Scale, Sheet};
+use scxsim_shares::{LEVELS, Level, Levels, Shade};
 
 /// A kind of time in the columns of a row, and its colour and band.
 #[derive(Clone, Copy)]

@@ -1,6 +1,7 @@
 use crate::cells::{Coat, USED_UP, WAITED};
 use scx_load_workloads::Workload;
-use scxsim_layout::{DARK, LIGHT, Levels, OTHERS, QUEUES, Row, Shade, Sheet};
+use scxsim_layout::{DARK, LIGHT, OTHERS, QUEUES, Row, Sheet};
+use scxsim_shares::{Levels, Shade};
 use scxsim_sums::Gathered;
 use std::alloc::{AllocError, Global};
 

@@ -1,4 +1,5 @@
-use scxsim_layout::{Grid, Shades};
+use scxsim_layout::Grid;
+use scxsim_shares::Shades;
 use std::alloc::{AllocError, Global};
 
 /// The time that a row ran in all, and waited by the clock.

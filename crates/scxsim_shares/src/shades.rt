@@ -1,4 +1,4 @@
-use crate::scales::{Mark, Scale};
+use scxsim_layout::{Mark, Scale};
 use std::alloc::{AllocError, Global};
 
 /// The colours of the tasks that ran in a column.

@@ -1,4 +1,4 @@
-use crate::grids::Grid;
+use scxsim_layout::Grid;
 use std::alloc::{AllocError, Global};
 
 /// The number of shades.
