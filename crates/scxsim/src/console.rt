@@ -1,5 +1,4 @@
-use scxsim_commands::{FILE_LIMIT, read_file};
-use scxsim_remarks::STANDARD_INPUT;
+use scxsim_commands::{FILE_LIMIT, STANDARD_INPUT, read_file};
 use std::io::{IsTerminal, Read};
 use std::rt::Clock;
 use std::{env, io};

@@ -1,6 +1,8 @@
 use crate::files::Unread;
-use scxsim_commands::{FAILED, Fault, Hint, Out, Refusal, finish, write_unread};
-use scxsim_remarks::{STANDARD_INPUT, hint_on_both, hint_on_unread};
+use scxsim_commands::{
+    FAILED, Fault, Hint, Out, Refusal, STANDARD_INPUT, finish, hint_on_both, hint_on_unread,
+    write_unread,
+};
 use std::alloc::Global;
 
 /// The end of the program: its status, and the message on a refused file.

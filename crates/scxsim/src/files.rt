@@ -1,6 +1,5 @@
 use crate::console::Console;
-use scxsim_commands::{Hint, hint_of_tables};
-use scxsim_remarks::STANDARD_INPUT;
+use scxsim_commands::{Hint, STANDARD_INPUT, hint_of_tables};
 use std::io::ErrorKind;
 
 /// The bytes of the files of a run.

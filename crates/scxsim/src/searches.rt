@@ -5,7 +5,7 @@ use crate::files::{RunFiles, files_of};
 use crate::remarks::{named, remark_of_run};
 use scxsim_commands::{Fault, Out, text};
 use scxsim_explore::{Lists, Watcher, explore};
-use scxsim_remarks::{SearchProgress, hint_on_lists};
+use scxsim_remarks::{SearchProgress, hint_on_limits, hint_on_lists};
 use std::alloc::Global;
 
 /// The arguments of a search: the paths of its files, and the lists of events that it tries.
@@ -35,22 +35,21 @@ pub(crate) fn search<R: AllocGlobal + Console, W: Out>(
     end(outcome, hint, remark, out)
 }
 
-/// A hint at a word that was refused, or a remark on the files.
+/// A hint at a word or a size that was refused, or a remark on the files.
 fn remark_of_search(
     alloc: Global,
     outcome: &Result<bool, Fault>,
     files: &RunFiles,
     words: SearchWords<'_>,
 ) -> Option<String> {
+    let policy = named(words.policy, &files.policy);
+    let workload = named(words.workload, &files.workload);
     match outcome {
-        Ok(false) => hint_on_lists(alloc, words.lists),
-        _ => remark_of_run(
-            alloc,
-            outcome,
-            None,
-            named(words.policy, &files.policy),
-            named(words.workload, &files.workload),
-        ),
+        Ok(false) => match hint_on_lists(alloc, words.lists) {
+            Some(hint) => Some(hint),
+            None => hint_on_limits(alloc, policy?, workload?),
+        },
+        _ => remark_of_run(alloc, outcome, None, policy, workload),
     }
 }
 

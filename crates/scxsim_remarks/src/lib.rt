@@ -2,7 +2,7 @@
 //!
 //! A remark goes with the refusal's line: the place, as compilers write it, so that editors go there; the line
 //! itself; below it the reason; and what may have been meant. The call for whose fault a policy was ejected has one
-//! too. A hint says what to do: of a word, a file of another kind, or one that can't be read.
+//! too. A hint says what to do: of a word, a file of another kind, or files that are too large for a search.
 //!
 //! Progress says which part of a run is over and how long the rest takes; of a search, how far it is and how fast. It
 //! takes one line of a terminal, which is taken back at the end.
@@ -11,7 +11,6 @@
 mod assembler;
 mod callbacks;
 mod estimate;
-mod excerpt;
 mod faults;
 mod line;
 mod meant;
@@ -22,7 +21,7 @@ mod pace;
 mod progress;
 mod remarks;
 mod search;
-mod unread;
+mod search_limits;
 mod word_hints;
 
 pub use callbacks::remarks_on_callbacks;
@@ -33,5 +32,5 @@ pub use pace::Pace;
 pub use progress::Progress;
 pub use remarks::{remark_on_file, remark_on_run};
 pub use search::SearchProgress;
-pub use unread::{STANDARD_INPUT, hint_on_both, hint_on_unread};
+pub use search_limits::hint_on_limits;
 pub use word_hints::{hint_on_callback, hint_on_lists, hint_on_moment, hint_on_task};

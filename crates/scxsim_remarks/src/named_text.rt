@@ -1,6 +1,6 @@
-use crate::excerpt::write_excerpt;
 use scx_isa::Callback;
 use scx_load_files::{Place, place_of_slot};
+use scxsim_commands::write_excerpt;
 use scxsim_output::Text;
 use std::alloc::{AllocError, Global};
 

@@ -1,9 +1,9 @@
-use crate::excerpt::push_shown;
 use crate::named_text::NamedText;
 use scx_isa::{CALLBACKS, Rules};
 use scx_load_policies::{Programs, read_policy};
 use scx_load_replay::read_replay_by;
 use scx_load_workloads::read_workload_by;
+use scxsim_commands::push_shown;
 use scxsim_output::Text;
 use std::alloc::Global;
 

@@ -1,13 +1,12 @@
 ghost use Rattle.std.specs.Prelude.{◌≤◌, length};
 
-use crate::excerpt::push_shown;
 use crate::named_text::NamedText;
 use crate::nearest::Nearest;
 use crate::remarks::rules_of;
 use scx_isa::CALLBACKS;
 use scx_load_policies::{Programs, read_policy};
 use scx_load_workloads::{Workload, numeral};
-use scxsim_commands::Word;
+use scxsim_commands::{Word, push_shown};
 use scxsim_explore::Lists;
 use scxsim_output::Text;
 use scxsim_runs::read_scenario;

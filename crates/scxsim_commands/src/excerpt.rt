@@ -6,7 +6,7 @@ const SHOWN: usize = 100;
 
 /// The line of a place with its number, and a mark below the column. Nothing where there is no such line, or it is
 /// longer up to there than is shown.
-pub(crate) fn write_excerpt(said: &mut Text, text: &str, place: Place) {
+pub fn write_excerpt(said: &mut Text, text: &str, place: Place) {
     match line_at(text, place.line) {
         Some(line) if place.column <= SHOWN => write_line(said, line, place),
         _ => {}
@@ -23,7 +23,7 @@ fn write_line(said: &mut Text, line: &str, place: Place) {
 }
 
 /// Appends the first characters of a text, each as one column of a terminal.
-pub(crate) fn push_shown(said: &mut Text, text: &str) {
+pub fn push_shown(said: &mut Text, text: &str) {
     for c in text.chars().take(SHOWN) {
         said.character(shown(c));
     }
