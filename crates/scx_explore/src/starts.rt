@@ -1,7 +1,8 @@
 use scx_explore_findings::Watch;
 use scx_explore_machines::{Look, Most};
 use scx_isa::Callback;
-use scx_load_policies::{build, read_policy};
+use scx_load_driver::{give_back_machine, give_back_policy};
+use scx_load_policies::{build_seeded, read_policy};
 use scx_load_workloads::Workload;
 use scx_sched::{Policy, Sim};
 use scx_weights::Tree;
@@ -25,21 +26,21 @@ pub struct Starts {
 ///
 /// Memory runs out.
 pub fn starts_of(alloc: Global, policy: &str, workload: &Workload) -> Result<Starts, AllocError> {
-    let policy = policy_of(alloc, policy)?;
+    let policy = policy_of(alloc, policy, workload.seed())?;
     match workload.tree(alloc) {
-        Ok(tree) => starts_with(alloc, policy.with_seed(workload.seed()), tree, workload),
+        Ok(tree) => starts_with(alloc, policy, tree, workload),
         Err(_) => {
-            drop(policy);
+            give_back_policy(policy);
             Err(AllocError)
         }
     }
 }
 
-fn policy_of(alloc: Global, text: &str) -> Result<Policy, AllocError> {
+fn policy_of(alloc: Global, text: &str, seed: u64) -> Result<Policy, AllocError> {
     let Ok(text) = read_policy(alloc, text) else {
         return Err(AllocError);
     };
-    match build(alloc, text) {
+    match build_seeded(alloc, text, seed) {
         Ok(policy) => Ok(policy),
         Err(_) => Err(AllocError),
     }
@@ -57,7 +58,7 @@ fn starts_with(
     };
     match Sim::new_seen(alloc, policy, tree, workload.cpus(), &mut look) {
         Ok(sim) => {
-            drop(sim);
+            give_back_machine(sim);
             Ok(Starts {
                 init: look.most.grown(Callback::Init),
                 enable: look.most.grown(Callback::Enable),

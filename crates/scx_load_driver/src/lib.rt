@@ -23,6 +23,7 @@ mod blocks;
 mod calendar;
 mod driver;
 mod events;
+mod giving_back;
 mod laws;
 mod run;
 mod set;
@@ -30,5 +31,6 @@ mod skipping;
 
 pub use driver::{Driver, Phase};
 pub use events::Events;
+pub use giving_back::{give_back_machine, give_back_policy};
 pub use laws::no_event_is_refused;
 pub use run::run_events;

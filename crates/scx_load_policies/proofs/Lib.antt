@@ -2,3 +2,4 @@ mod Timing
 mod Within
 mod Built
 mod Placing
+pub mod Seeding

@@ -50,6 +50,17 @@ pub fn build(alloc: Global, text: PolicyText) -> Result<Policy, BuildError>
     }
 }
 
+/// Makes the policy of what was read, as `build` does, with random numbers that begin at that seed.
+#[tactic(auto, using(crate::proofs::Seeding::built_seeded))]
+pub fn build_seeded(alloc: Global, text: PolicyText, seed: u64) -> Result<Policy, BuildError>
+    ensures built { IfOk result (IsBuilt text) }
+    ensures seeded { IfOk result (λ policy. policy.seed ≡ seed) }
+    ensures refused { IfErr result (IsFirstRefused text) }
+{
+    let policy = build(alloc, text)?;
+    Ok(policy.with_seed(seed))
+}
+
 /// The policy with ticks that far apart, that many timers, and idle CPUs tracked or not.
 fn completed(policy: Policy, tick_ms: u32, timers: u8, keeps_idle: bool) -> Policy
     requires { policy.keeps_idle ≡ false }

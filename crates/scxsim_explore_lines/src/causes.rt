@@ -5,6 +5,7 @@ ghost use Rattle.scxsim_explore_lines.specs.Causes.{IsCause, IsOfPlace, place_wo
 use crate::lengths::ms_begun;
 use crate::listed::Listed;
 use scx_explore::Finding;
+use scx_load_driver::give_back_machine;
 use scx_load_workloads::Workload;
 use scx_sched::{Event, Sim};
 use scxsim_faults::{FaultPlace, find_fault_among, write_call, write_reason};
@@ -52,7 +53,7 @@ fn cause_in(
     // Of the last millisecond alone the callbacks are heard.
     let begun = ms_begun(events) as u64;
     let place = find_fault_among(&mut Listed::new(events), &mut sim, begun);
-    drop(sim);
+    give_back_machine(sim);
     words_at(alloc, about, place)
 }
 

@@ -9,15 +9,13 @@ use Rattle.scx_sched_world.specs.Ejecting.{eject_of}
 use Rattle.scx_sched_machine.specs.declared.events.Event.{Event}
 use Rattle.scx_sched_machine.specs.Hearing.{Hears}
 use Rattle.scx_sched_machine.specs.Steps.{CallMade}
-use Rattle.scx_sched_policy.specs.Policy.{PolicyState, with_seed}
+use Rattle.scx_sched_policy.specs.Policy.{PolicyState}
 use Rattle.scx_sched.specs.Causes.{IsLast, IsCause, Waited, Went_wrong, Ended, EjectsOnce}
 use Rattle.scx_sched_machine.specs.Start.{first_state, IsRefusal, start_calls, calls_before}
 use Rattle.scx_sched_machine.specs.declared.start.NewError.{NewError}
 use Rattle.scx_sched_machine.specs.declared.start.NewError.TheVariants as start
 use Rattle.scx_sched.specs.Sim.{SimState, IsFirstState, after_event, calls_of}
 use Rattle.scx_weights.specs.Hierarchy.{Hierarchy}
-use Rattle.scx_load_policies.specs.Policies.{PolicyFile}
-use Rattle.scx_load_policies.specs.Building.{IsBuilt}
 use Rattle.scx_load_replay.specs.declared.scenario.Scenario.{Scenario}
 use Rattle.scx_load_replay.specs.Scenarios.{workload_of, scenario_events}
 use Rattle.scx_load_workloads.specs.Workload.{WorkloadState, first_tree}
@@ -146,23 +144,6 @@ at_start policy x tree cpus (start.InitFailed n) f g (Ok (Some p)) same count re
     At_start (begins policy (workload_of x) tree cpus n p same count refused.1 (last_found (start_calls policy tree cpus) f g p empty hears kept))
 at_start policy x tree cpus start.BadShape f g (Ok (Some p)) same count refused empty hears none kept = let bad : Some p ≡ None = none refl in absurd (cc)
 at_start policy x tree cpus start.OutOfMemory f g (Ok (Some p)) same count refused empty hears none kept = let bad : Some p ≡ None = none refl in absurd (cc)
-
--- the policy of a file stays that where its random numbers begin at a seed
-pub built_seeded : (text : PolicyFile) (p : PolicyState) (n : ℕ) → IsBuilt text p → IsBuilt text (with_seed p n)
-built_seeded text p n b = record {
-  shapes = b.shapes;
-  timeout = b.timeout;
-  rules = b.rules;
-  ticks = b.ticks;
-  idle = b.idle;
-  timers = b.timers;
-  programs = b.programs;
-  contexts = b.contexts;
-  accepted = b.accepted;
-  as_callbacks = b.as_callbacks;
-  for_maps = b.for_maps;
-  by_rules = b.by_rules;
-}
 
 -- of the policy that a text stands for
 pub under_text : {E : Type 0} (text : List ℕ) (policy : Option PolicyState) (x : Scenario) (r : Result (Option FaultPlace) E) → IfSome policy (IsPolicyOf text (workload_of x).seed)

@@ -9,9 +9,9 @@ ghost use Rattle.scxsim_faults.specs.Places.{IsPlaceAt, IsPlaceIn, IsPlaceUnder,
 
 use crate::finder::Finder;
 use crate::place::FaultPlace;
-use scx_load_driver::{Driver, Events};
+use scx_load_driver::{Driver, Events, give_back_machine, give_back_policy};
 use scx_load_files::LoadError;
-use scx_load_policies::{BuildError, PolicyText, build, read_policy};
+use scx_load_policies::{BuildError, PolicyText, build_seeded, read_policy};
 use scx_load_replay::Scenario;
 use scx_load_workloads::Workload;
 use scx_sched::{Event, MAX_EVENTS, NewError, Policy, Sim, Unseen};
@@ -68,13 +68,12 @@ pub fn policy_of(alloc: Global, text: &str, seed: u64) -> Result<Option<Policy>,
 
 /// The policy of a file that was read, whose random numbers begin at that seed; none if a program of it is
 /// refused.
-#[tactic(auto, using(crate::proofs::Ejected::built_seeded))]
 fn built(alloc: Global, text: PolicyText, seed: u64) -> Result<Option<Policy>, AllocError>
     ensures built { IfOk result (λ policy. IfSome policy (IsBuilt text)) }
     ensures seeded { IfOk result (λ policy. IfSome policy (λ p. p.seed ≡ seed)) }
 {
-    match build(alloc, text) {
-        Ok(policy) => Ok(Some(policy.with_seed(seed))),
+    match build_seeded(alloc, text, seed) {
+        Ok(policy) => Ok(Some(policy)),
         Err(BuildError::NoMemory) => Err(AllocError),
         Err(BuildError::Refused { .. }) => Ok(None),
     }
@@ -92,7 +91,7 @@ fn find_under(
     match scenario.workload().tree(alloc) {
         Ok(tree) => find_with(alloc, policy, tree, scenario, clock),
         Err(_) => {
-            drop(policy);
+            give_back_policy(policy);
             Err(AllocError)
         }
     }
@@ -113,7 +112,7 @@ fn find_with(
     match Sim::new_seen(alloc, policy, tree, scenario.workload().cpus(), &mut finder) {
         Ok(mut sim) => {
             let found = find_in_scenario(alloc, scenario, &mut sim, clock);
-            drop(sim);
+            give_back_machine(sim);
             found
         }
         Err(error) => not_begun(error, finder.found()),

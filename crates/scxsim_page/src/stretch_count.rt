@@ -1,7 +1,7 @@
 ghost use Rattle.std.specs.Prelude.{◌≡◌, IfOk, None, slice_index_or};
 ghost use Rattle.scxsim_page.specs.Stretches.{within, has_lasted, with_one, none_yet, turned, all_counted, stretches_of, stretches_in};
 
-use scx_load_driver::Events;
+use scx_load_driver::{Events, give_back_machine};
 use scx_sched::{Event, Sim, What};
 use scxsim_commands::Window;
 use scxsim_runs::{Heard, Listener, ScenarioRun};
@@ -35,7 +35,7 @@ fn count_events<E: Events + Drop>(mut events: E, mut sim: Sim, first: Counting) 
     let count = counting.count_all(sim.clock());
     drop(counting);
     drop(events);
-    drop(sim);
+    give_back_machine(sim);
     count
 }
 

@@ -33,7 +33,7 @@ pub fn write_document<S: Sketch + Drop, L: Listener, W: Out>(
         → HasFailed (W.failure_count out.old) (W.failure_count out.new) }
 {
     let Ok(mut sketch) = sketch else {
-        drop(run);
+        run.give_back();
         return Err(Fault::Refused(Refusal::NoMemory));
     };
     let ScenarioRun {

@@ -2,7 +2,7 @@
 use Rattle.std.proofs.Common.{◌≡◌, ℕ, List, Result, Ok, Err, IfOk, OnOk, sym, subst}
 use Rattle.scx_weights.specs.Hierarchy.{Hierarchy}
 use Rattle.scx_sched_machine.specs.declared.events.Event.{Event}
-use Rattle.scx_sched_policy.specs.Policy.{PolicyState, with_seed}
+use Rattle.scx_sched_policy.specs.Policy.{PolicyState}
 use Rattle.scx_sched_machine.specs.Callbacks.{AreAnswered}
 use Rattle.scx_sched_machine.specs.Start.{start_calls}
 use Rattle.scx_sched.specs.Sim.{SimState, IsFirstState}
@@ -21,23 +21,6 @@ use Rattle.scx_load_replay.specs.Scenarios.{workload_of, scenario_events, scenar
 use Rattle.scxsim_runs.specs.Runs.{IsRun}
 use Rattle.scxsim_runs.specs.Replays.{IsReplayRun}
 use Rattle.scxsim_runs.specs.Scenarios.{IsScenarioRun}
-
--- the policy of a file stays that where its random numbers begin at a seed
-pub built_seeded : (text : PolicyFile) (p : PolicyState) (n : ℕ) → IsBuilt text p → IsBuilt text (with_seed p n)
-built_seeded text p n b = record {
-  shapes = b.shapes;
-  timeout = b.timeout;
-  rules = b.rules;
-  ticks = b.ticks;
-  idle = b.idle;
-  timers = b.timers;
-  programs = b.programs;
-  contexts = b.contexts;
-  accepted = b.accepted;
-  as_callbacks = b.as_callbacks;
-  for_maps = b.for_maps;
-  by_rules = b.by_rules;
-}
 
 -- callbacks are answered as one begins, of a tree and processors that are a workload's
 pub answered_of : {R E : Type 0} (r : Result R E) (p : PolicyState) (s t : Hierarchy) (m n : ℕ) → s ≡ t → m ≡ n → OnOk r (AreAnswered (start_calls p s m)) → OnOk r (AreAnswered (start_calls p t n))

@@ -18,6 +18,6 @@ pub use preparing::{Run, give_back, prepare};
 pub use replays::prepare_replay;
 pub use scenario_parts::{ScenarioPart, prepare_scenario_part};
 pub use scenarios::{
-    ScenarioRun, prepare_scenario, read_scenario, texts_with_events_are_files_of_events,
-    texts_without_events_are_workloads,
+    ScenarioRun, give_back_start, prepare_scenario, read_scenario,
+    texts_with_events_are_files_of_events, texts_without_events_are_workloads,
 };

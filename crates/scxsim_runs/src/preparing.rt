@@ -4,7 +4,6 @@ ghost use Rattle.scx_sched_machine.specs.Callbacks.{AreAnswered};
 ghost use Rattle.scx_sched_machine.specs.Start.{is_bad_shape, start_calls};
 ghost use Rattle.scx_sched.specs.Sim.{IsFirstState};
 ghost use Rattle.scx_load_policies.specs.Reading.{policy_text};
-ghost use Rattle.scx_load_policies.specs.Building.{IsBuilt, IsFirstRefused};
 ghost use Rattle.scx_load_workloads.specs.Workload.{first_tree};
 ghost use Rattle.scx_load_workloads.specs.Reading.{workload_by};
 ghost use Rattle.scx_load_driver.specs.Driver.{remaining};
@@ -17,9 +16,9 @@ ghost use Rattle.scxsim_runs.specs.Refusals.{or_refusal, IsStartRefusal};
 
 use crate::listener::{Heard, Listener};
 use scx_isa_semantics::Rules;
-use scx_load_driver::{Driver, Events};
+use scx_load_driver::{Driver, Events, give_back_machine, give_back_policy};
 use scx_load_files::LoadError;
-use scx_load_policies::{BuildError, PolicyText, build, read_policy};
+use scx_load_policies::{PolicyText, build_seeded, read_policy};
 use scx_load_workloads::{Workload, read_workload_by};
 use scx_sched::{NewError, Policy, Sim};
 use scx_weights::Tree;
@@ -57,7 +56,7 @@ impl Run<Driver> {
 /// Gives back the memory of a machine and of its events.
 pub fn give_back<E: Events + Drop, L: Listener>(events: Heard<'_, E, L>, sim: Sim) {
     drop(events);
-    drop(sim);
+    give_back_machine(sim);
 }
 
 /// The run of a policy file's text and a workload file's.
@@ -77,17 +76,6 @@ pub fn prepare(alloc: Global, policy: &str, workload: &str) -> Result<Run, Refus
     let name = String::from_str(alloc, text.name())?;
     let policy = build_seeded(alloc, text, workload.seed())?;
     begin(alloc, name, policy, workload)
-}
-
-/// The policy of a file, whose random numbers begin at that seed.
-#[tactic(auto, using(crate::proofs::Running::built_seeded))]
-pub(crate) fn build_seeded(alloc: Global, text: PolicyText, seed: u64) -> Result<Policy, BuildError>
-    ensures built { IfOk result (IsBuilt text) }
-    ensures seeded { IfOk result (λ policy. policy.seed ≡ seed) }
-    ensures refused { IfErr result (IsFirstRefused text) }
-{
-    let policy = build(alloc, text)?;
-    Ok(policy.with_seed(seed))
 }
 
 /// The run of a workload under a policy. All of its memory is taken here.
@@ -110,7 +98,7 @@ fn begin(alloc: Global, name: String, policy: Policy, workload: Workload) -> Res
         Ok(driver) => begin_with(alloc, name, policy, workload, driver),
         Err(AllocError) => {
             drop(name);
-            drop(policy);
+            give_back_policy(policy);
             drop(workload);
             Err(Refusal::NoMemory)
         }
@@ -165,7 +153,7 @@ pub(crate) fn start(alloc: Global, policy: Policy, workload: &Workload) -> Resul
     match tree_of(alloc, workload) {
         Ok(tree) => machine(alloc, policy, tree, workload.cpus()),
         Err(refusal) => {
-            drop(policy);
+            give_back_policy(policy);
             Err(refusal)
         }
     }

@@ -11,8 +11,9 @@ ghost use Rattle.scx_load_replay.specs.Replayer.{remaining};
 ghost use Rattle.scxsim_runs.specs.Runs.{name_in, IsStartFault};
 ghost use Rattle.scxsim_runs.specs.Replays.{IsReplayRun, IsReplayCause, IsEventsFault};
 
-use crate::preparing::{Run, begin_with, build_seeded, or_refusal, policy_in};
+use crate::preparing::{Run, begin_with, or_refusal, policy_in};
 use scx_isa_semantics::Rules;
+use scx_load_policies::build_seeded;
 use scx_load_replay::{Replay, Replayer, read_replay_by};
 use scx_sched::Policy;
 use scxsim_commands::{FileKind, Refusal};

@@ -11,9 +11,11 @@ ghost use Rattle.scxsim_runs.specs.Runs.{name_in, IsStartFault};
 ghost use Rattle.scxsim_runs.specs.Scenarios.{IsScenarioRun, IsScenarioCause, IsScenarioFault, IsFaultIf};
 ghost use Rattle.scxsim_runs.specs.ScenarioLaws.{TextsWithoutEventsAreWorkloads, TextsWithEventsAreFilesOfEvents};
 
-use crate::preparing::{Run, build_seeded, policy_in, start, workload_in};
+use crate::preparing::{Run, policy_in, start, workload_in};
 use crate::replays::events_in;
 use scx_isa_semantics::Rules;
+use scx_load_driver::{give_back_machine, give_back_policy};
+use scx_load_policies::build_seeded;
 use scx_load_replay::{Scenario, Source, is_events};
 use scx_sched::{Policy, Sim};
 use scxsim_commands::Refusal;
@@ -46,6 +48,19 @@ impl ScenarioRun {
         Ok((events, sim))
     }
 
+    /// Gives back the run's memory.
+    pub fn give_back(self) {
+        let ScenarioRun {
+            policy_name,
+            scenario,
+            events,
+            sim,
+        } = self;
+        drop(policy_name);
+        drop(scenario);
+        give_back_start(events, sim);
+    }
+
     /// The run, without the lines of a file of events.
     pub fn into_run(self) -> Run<Source>
         ensures name { result.policy_name ≡ self.policy_name }
@@ -66,6 +81,12 @@ impl ScenarioRun {
             sim,
         }
     }
+}
+
+/// Gives back the memory of a machine and of its events.
+pub fn give_back_start(events: Source, sim: Sim) {
+    drop(events);
+    give_back_machine(sim);
 }
 
 /// The run of a policy file's text and of a workload's or of a file of events.
@@ -143,7 +164,7 @@ fn begin_scenario(
         Ok(events) => begin_events(alloc, name, policy, scenario, events),
         Err(AllocError) => {
             drop(name);
-            drop(policy);
+            give_back_policy(policy);
             drop(scenario);
             Err(Refusal::NoMemory)
         }

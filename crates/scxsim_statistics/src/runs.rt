@@ -10,7 +10,7 @@ use crate::gathering::{Figures, gather};
 use scx_load_replay::Source;
 use scx_sched::Sim;
 use scxsim_commands::Refusal;
-use scxsim_runs::{Listener, Run, ScenarioRun, prepare_replay, prepare_scenario};
+use scxsim_runs::{Listener, Run, ScenarioRun, give_back_start, prepare_replay, prepare_scenario};
 use std::alloc::{AllocError, Global};
 
 /// The figures of the run of a policy file's text and of a workload's or of a file of events.
@@ -32,14 +32,12 @@ pub fn figures<L: Listener>(
 }
 
 /// A run before its first event: its machine, and the source of its events.
-#[derive(Drop)]
 pub struct Start {
     pub events: Source,
     pub sim: Sim,
 }
 
 /// The figures of a run, and its start, for a caller that goes through the run again.
-#[derive(Drop)]
 pub struct FiguresAndStart {
     pub figures: Figures,
     pub start: Start,
@@ -87,7 +85,7 @@ fn gather_beside<L: Listener>(
             gather_with(alloc, run.into_run(), start, listener)
         }
         Err(error) => {
-            drop(run);
+            run.give_back();
             Err(error)
         }
     }
@@ -109,7 +107,8 @@ fn gather_with<L: Listener>(
     match gather(alloc, run, listener) {
         Ok(figures) => Ok(FiguresAndStart { figures, start }),
         Err(error) => {
-            drop(start);
+            let Start { events, sim } = start;
+            give_back_start(events, sim);
             Err(error)
         }
     }

@@ -1,4 +1,5 @@
 use crate::stepper::Stepper;
+use scx_load_driver::{give_back_machine, give_back_policy};
 use scx_load_workloads::Workload;
 use scx_sched::{NewError, Policy, Sim};
 use scx_weights::Tree;
@@ -43,7 +44,7 @@ fn start_of(alloc: Global, policy: Policy, workload: &Workload) -> Result<Text, 
     match workload.tree(alloc) {
         Ok(tree) => start_with(alloc, policy, tree, workload),
         Err(_) => {
-            drop(policy);
+            give_back_policy(policy);
             Err(AllocError)
         }
     }
@@ -59,7 +60,7 @@ fn start_with(
     let mut stepper = Stepper::new(alloc, workload, 0, Text::new(alloc));
     match Sim::new_seen(alloc, policy, tree, workload.cpus(), &mut stepper) {
         Ok(sim) => {
-            drop(sim);
+            give_back_machine(sim);
             Ok(stepper.into_text())
         }
         Err(NewError::OutOfMemory) => {

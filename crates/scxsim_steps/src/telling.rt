@@ -77,7 +77,7 @@ fn page_of<L: Listener>(
     match moment_in(ms, run.scenario.workload().ms()) {
         Some(ms) => Ok(Some(page_at(alloc, policy, run, ms, listener)?)),
         None => {
-            drop(run);
+            run.give_back();
             Ok(None)
         }
     }

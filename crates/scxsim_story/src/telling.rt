@@ -86,7 +86,7 @@ fn told_of_run<L: Listener>(
     match subject_of(run.scenario.workload(), task) {
         Some(subject) => Ok(tell(alloc, run, task, subject, listener)?),
         None => {
-            drop(run);
+            run.give_back();
             Err(Refusal::NoSuchTask)
         }
     }

@@ -16,7 +16,7 @@ use scx_sched::Eject;
 use scxsim_commands::{Fault, Refusal};
 use scxsim_faults::{FaultPlace, find_fault_among};
 use scxsim_output::{Failed, Out, Text, write_all};
-use scxsim_runs::Listener;
+use scxsim_runs::{Listener, give_back_start};
 use scxsim_statistics::{
     Figures, FiguresAndStart, Start, figures, figures_and_start, replay_figures,
 };
@@ -242,8 +242,7 @@ fn place_of_cause(figures: &Figures, start: Start) -> Option<FaultPlace>
         }
         Some(Eject::Stall(_, _)) | None => None,
     };
-    drop(events);
-    drop(sim);
+    give_back_start(events, sim);
     place
 }
 

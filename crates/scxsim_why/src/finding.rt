@@ -16,7 +16,7 @@ use scx_sched_world::HELD;
 use scxsim_account::{Account, CallEnd, HeldTask, IdleFigures, account_of, hold_of, last_end};
 use scxsim_commands::Refusal;
 use scxsim_faults::{FaultPlace, find_fault_among};
-use scxsim_runs::{Heard, Listener, ScenarioRun, give_back, prepare_scenario};
+use scxsim_runs::{Heard, Listener, ScenarioRun, give_back, give_back_start, prepare_scenario};
 use scxsim_statistics::{Figures, figures};
 use scxsim_waits::{Waits, WatchedWait};
 use scxsim_why_lines::worst_of;
@@ -120,7 +120,7 @@ fn watch<L: Listener>(
         (IsLastBeforeEjection run.sim (scenario_events run.scenario run.sim))) }
 {
     let watched = watch_copies(alloc, figures, &run, listener);
-    drop(run);
+    run.give_back();
     watched
 }
 
@@ -230,8 +230,7 @@ fn fault_at(
 ) -> Result<Option<FaultPlace>, AllocError> {
     let (mut events, mut sim) = run.duplicate(alloc)?;
     let place = find_fault_among(&mut events, &mut sim, clock);
-    drop(events);
-    drop(sim);
+    give_back_start(events, sim);
     Ok(place)
 }
 
@@ -258,8 +257,7 @@ fn last_from(alloc: Global, clock: u64, run: &ScenarioRun) -> Result<Option<Call
 {
     let (mut events, mut sim) = run.duplicate(alloc)?;
     let end = last_end(&mut events, &mut sim, clock);
-    drop(events);
-    drop(sim);
+    give_back_start(events, sim);
     Ok(end)
 }
 
@@ -289,8 +287,7 @@ fn hold_at(
 ) -> Result<Option<CallEnd>, AllocError> {
     let (mut events, mut sim) = run.duplicate(alloc)?;
     let end = hold_of(&mut events, &mut sim, task, clock);
-    drop(events);
-    drop(sim);
+    give_back_start(events, sim);
     Ok(end)
 }
 
