@@ -6,8 +6,8 @@ use Rattle.scx_sched_machine.specs.declared.events.Event.{Event}
 use Rattle.scx_sched_machine.specs.Notes.{Takes}
 use Rattle.scx_sched.specs.Sim.{SimState, after_event, notes_of}
 use Rattle.scxsim_trace.specs.Writing.{Seen}
-use Rattle.scxsim_trace.specs.Observing.{is_at_end, IsShown, AreWatched, Watches}
-use Rattle.scxsim_pictures.specs.Sketching.{Grows, IsWholeOr, IsWholeUnless, WritesSketch}
+use Rattle.scxsim_trace.specs.Runs.{Observed}
+use Rattle.scxsim_pictures.specs.Sketching.{Grows, IsWholeOr, IsWholeUnless, KeepsOutput, TakesSketch}
 use Rattle.scxsim_pictures.proofs.Growing.{grown_by, grown_by_none, grown_twice}
 
 -- ---- growth, or a failure
@@ -70,43 +70,45 @@ nothing_after false s e =
 
 -- ---- the states of a view
 
-draws_none : {S G : Type 0} (output : S → G) (seen : S → Seen) (s t : S) → t ≡ s → Draws output seen s t
-draws_none output seen s t same =
+draws_none : {S G : Type 0} (output : S → G) (seen : S → Seen) (s t : S) → KeepsOutput output seen s t → Draws output seen s t
+draws_none output seen s t (same_output, same) =
     let P : Seen → Type 0 = λ x. HasGrownUnless (seen s).failed (seen s) x in
-    (ap output same, subst P (sym (ap seen same)) (nothing_after (seen s).failed (seen s) refl))
+    (same_output, subst P (sym same) (nothing_after (seen s).failed (seen s) refl))
+
+stays : {S G : Type 0} (output : S → G) (seen : S → Seen) (s t : S) → t ≡ s → Draws output seen s t
+stays output seen s t same = draws_none output seen s t (ap output same, ap seen same)
 
 draws_twice : {S G : Type 0} (output : S → G) (seen : S → Seen) (s t u : S) → Draws output seen s t → Draws output seen t u → Draws output seen s u
 draws_twice output seen s t u (one_output, first) (next_output, next) =
     (next_output ∙ one_output, unless_twice (seen s).failed (seen s) (seen t) (seen u) refl first next)
 
-draws_shown : {S G : Type 0} (output : S → G) (seen : S → Seen) (texts : S → List ℕ → Type 0) (at_end f : Bool) (n : Note) (s t : S)
-    → (seen s).failed ≡ f → IsShown (λ x. (seen x).failed) (λ x _ _ _ y. WritesSketch output seen texts x y) at_end s n t → Draws output seen s t
-draws_shown output seen texts at_end true n s t is (same, shown) = draws_none output seen s t (same is)
-draws_shown output seen texts at_end false n s t is (same, shown) =
-    let written = shown is in
-    (written.0, grown_unless (seen s).failed (texts t) (seen s) (seen t) written.1)
+draws_all : {S G : Type 0} (output : S → G) (seen : S → Seen) (texts : S → List ℕ → Type 0) (notes : List Note) (s t : S)
+    → Takes (λ x _ y. TakesSketch output seen texts x y) s notes t → Draws output seen s t
+draws_all output seen texts [] s t same = stays output seen s t same
+draws_all output seen texts (n ∷ ns) s t (u, (left, same_output, written), rest) =
+    draws_twice output seen s u t (same_output, grown_unless (seen s).failed (texts u) (seen s) (seen u) written) (draws_all output seen texts ns u t rest)
 
-draws_all_shown : {S G : Type 0} (output : S → G) (seen : S → Seen) (texts : S → List ℕ → Type 0) (at_end : Bool) (notes : List Note) (s t : S)
-    → Takes (IsShown (λ x. (seen x).failed) (λ x _ _ _ y. WritesSketch output seen texts x y) at_end) s notes t → Draws output seen s t
-draws_all_shown output seen texts at_end [] s t same = draws_none output seen s t same
-draws_all_shown output seen texts at_end (n ∷ ns) s t (u, one, rest) =
-    draws_twice output seen s u t (draws_shown output seen texts at_end (seen s).failed n s u refl one) (draws_all_shown output seen texts at_end ns u t rest)
+-- after a failure nothing more comes
+draws_on : {S G : Type 0} (output : S → G) (seen : S → Seen) (f : Bool) (s t : S) → (seen s).failed ≡ f
+    → ((seen s).failed ≡ true → t ≡ s) → ((seen s).failed ≡ false → Draws output seen s t) → Draws output seen s t
+draws_on output seen true s t is ends goes = stays output seen s t (ends is)
+draws_on output seen false s t is ends goes = goes is
 
-draws_watched : {S G : Type 0} (output : S → G) (seen : S → Seen) (texts : S → List ℕ → Type 0) (events : List Event) (m : SimState) (s t : S)
-    → AreWatched (λ x _ _ y. y ≡ x) (λ x. (seen x).failed) (λ x _ _ _ y. WritesSketch output seen texts x y) m events s t → Draws output seen s t
-draws_watched output seen texts [] m s t same = draws_none output seen s t same
-draws_watched output seen texts (e ∷ es) m s t (u, (v, expected, shown), rest) =
-    draws_twice output seen s u t
-    (draws_twice output seen s v u (draws_none output seen s v expected) (draws_all_shown output seen texts (is_at_end e) (notes_of m e) v u shown))
-    (draws_watched output seen texts es (after_event m e) u t rest)
+draws_observed : {S G : Type 0} (output : S → G) (seen : S → Seen) (texts : S → List ℕ → Type 0) (events : List Event) (m : SimState) (s : S) (n : SimState) (t : S)
+    → Observed (λ x _ _ y. KeepsOutput output seen x y) (λ x _ y. TakesSketch output seen texts x y) (λ x. (seen x).failed) events m s n t → Draws output seen s t
+draws_observed output seen texts [] m s n t (state, same, now) = stays output seen s t same
+draws_observed output seen texts (e ∷ es) m s n t (d, c, came, taken, now, well, ends, goes) =
+    draws_twice output seen s c t
+    (draws_twice output seen s d c (draws_none output seen s d came) (draws_all output seen texts (notes_of m e) d c taken))
+    (draws_on output seen (seen c).failed c t refl (λ f. (ends f).1) (λ f. draws_observed output seen texts es (after_event m e) c n t (goes f)))
 
 -- after a run that was sketched the output's known bytes have grown, or a write has failed
 pub run_is_sketched : {S G : Type 0} (output : S → G) (seen : S → Seen) (texts : S → List ℕ → Type 0) (f : Bool) (events : List Event) (m n : SimState) (s t : S)
     → (seen s).failed ≡ false → (seen t).failed ≡ f
-    → Watches (λ x _ _ y. y ≡ x) (λ x. (seen x).failed) (λ x _ _ _ y. WritesSketch output seen texts x y) events m s n t
+    → Observed (λ x _ _ y. KeepsOutput output seen x y) (λ x _ y. TakesSketch output seen texts x y) (λ x. (seen x).failed) events m s n t
     → (output t ≡ output s) × HasGrownOr f (seen s) (seen t)
-run_is_sketched output seen texts f events m n s t fresh is watched =
-    let all = draws_watched output seen texts watched.done m s t watched.shown in
+run_is_sketched output seen texts f events m n s t fresh is observed =
+    let all = draws_observed output seen texts events m s n t observed in
     let P : Bool → Type 0 = λ g. HasGrownUnless g (seen s) (seen t) in
     let Q : Bool → Type 0 = λ g. HasGrownOr g (seen s) (seen t) in
     (all.0, subst Q is (subst P fresh all.1))

@@ -1,3 +1,4 @@
+pub mod Objects
 pub mod NoteLines
 pub mod Sketching
 pub mod Pictures

@@ -23,8 +23,14 @@ abbrev pub IsWholeUnless : Bool → (List ℕ → Type 0) → Seen → Seen → 
 IsWholeUnless true texts s t = t ≡ s
 IsWholeUnless false texts s t = IsWholeOr t.failed texts s t
 
--- one of the texts of the new state is written whole, or a write fails
-abbrev pub WritesSketch :
+-- nothing is written
+abbrev pub KeepsOutput : {S G : Type 0} → (S → G) → (S → Seen) → S → S → Type 0
+KeepsOutput output seen s t = (output t ≡ output s) × (seen t ≡ seen s)
+
+-- one of the texts of the new state is written whole, or a write fails; a sketch whose output has
+-- failed is left as it was
+abbrev pub TakesSketch :
     {S G : Type 0} → (S → G) → (S → Seen) → (S → List ℕ → Type 0) → S → S → Type 0
-WritesSketch output seen texts s t =
-    (output t ≡ output s) × IsWholeUnless (seen s).failed (texts t) (seen s) (seen t)
+TakesSketch output seen texts s t =
+    ((seen s).failed ≡ true → t ≡ s) × (output t ≡ output s)
+    × IsWholeUnless (seen s).failed (texts t) (seen s) (seen t)

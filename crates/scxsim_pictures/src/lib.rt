@@ -17,6 +17,7 @@ mod arrows;
 mod documents;
 mod gathering;
 mod note_lines;
+mod numbers;
 mod objects;
 mod queue_lengths;
 mod runners;
@@ -27,7 +28,6 @@ mod track_titles;
 mod tracks;
 
 pub use documents::write_document;
-pub use note_lines::Part;
 pub use sketches::Sketch;
 pub use svg_pictures::picture;
 pub use timelines::timeline;

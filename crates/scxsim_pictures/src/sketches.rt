@@ -2,12 +2,12 @@ ghost use Rattle.std.specs.Prelude.{◌≡◌, ◌++◌, ℕ, List, OnOk};
 ghost use Rattle.std.specs.Io.KnownBytes.{Appends};
 ghost use Rattle.scxsim_output.specs.Output.{Counts};
 ghost use Rattle.scxsim_trace.specs.Lines.{NameLists};
-ghost use Rattle.scxsim_pictures.specs.Sketching.{Grows, GrowsBy, WritesSketch};
+ghost use Rattle.scxsim_pictures.specs.Sketching.{Grows, GrowsBy, KeepsOutput, TakesSketch};
 
 use scx_load_driver::Events;
-use scx_sched::{Event, Sim, What};
+use scx_sched::{Event, Note, Sim, Sink, What};
 use scxsim_output::{Failed, Out, write_all};
-use scxsim_trace::{Names, Observer, observe};
+use scxsim_trace::{EventSink, Names, go_through};
 
 /// Makes a text of a run as it goes, a part after each note.
 pub trait Sketch {
@@ -42,13 +42,13 @@ struct Sketching<'a, 'n, S, N, W> {
     sketch: &'a mut S,
     names: &'n N,
     out: &'a mut W,
+    /// True if the event of the notes comes as its millisecond ends.
+    is_at_end: bool,
     failed: bool,
 }
 
-impl<S: Sketch, N: Names, W: Out> Observer for Sketching<'_, '_, S, N, W> {
-    ghost expects = { λ s _ _ t. t ≡ s };
-
-    ghost shows = { λ s _ _ _ t. WritesSketch (λ x. x.out.ghost_name)
+impl<S: Sketch, N: Names, W: Out> Sink for Sketching<'_, '_, S, N, W> {
+    ghost takes = { λ s _ t. TakesSketch (λ x. x.out.ghost_name)
         (λ x. record {
           contents = W.contents x.out.now;
           failures = W.failure_count x.out.now;
@@ -58,13 +58,18 @@ impl<S: Sketch, N: Names, W: Out> Observer for Sketching<'_, '_, S, N, W> {
 
     ghost has_failed = { λ s. s.failed };
 
-    fn expect(&mut self, _sim: &Sim, _event: Event) {}
+    ghost failed_stays = { λ s t n failed takes. takes.0 failed };
 
-    fn show(&mut self, moment: u64, clock: u64, what: What) {
+    fn take(&mut self, note: Note) {
         if self.failed {
             return;
         }
-        self.sketch.show(moment, clock, what);
+        let moment = if self.is_at_end {
+            note.clock.saturating_add(1)
+        } else {
+            note.clock
+        };
+        self.sketch.show(moment, note.clock, note.what);
         if self.sketch.write(self.names, self.out).is_err() {
             self.failed = true;
         }
@@ -73,6 +78,31 @@ impl<S: Sketch, N: Names, W: Out> Observer for Sketching<'_, '_, S, N, W> {
     fn failed(&self) -> bool {
         let failed = self.failed;
         failed
+    }
+
+    #[inline(always)]
+    fn heeds_runs(&self) -> bool {
+        false
+    }
+}
+
+impl<S: Sketch, N: Names, W: Out> EventSink for Sketching<'_, '_, S, N, W> {
+    ghost comes = { λ s _ _ t. KeepsOutput (λ x. x.out.ghost_name)
+        (λ x. record {
+          contents = W.contents x.out.now;
+          failures = W.failure_count x.out.now;
+          failed
+              = x.failed;
+        }) s t };
+
+    #[inline(always)]
+    fn event(&mut self, _sim: &Sim, event: Event) {
+        self.is_at_end = matches!(event, Event::Tick(_) | Event::Sleep(_));
+    }
+
+    #[inline(always)]
+    fn heeds_time(&self) -> bool {
+        false
     }
 }
 
@@ -117,9 +147,10 @@ fn write_notes<E: Events, S: Sketch, N: Names, W: Out>(
         sketch,
         names,
         out,
+        is_at_end: false,
         failed: false,
     };
-    observe(sim, events, &mut sketching);
+    go_through(sim, events, &mut sketching);
     if sketching.failed {
         return Err(Failed);
     }

@@ -8,8 +8,8 @@ ghost use Rattle.scxsim_pictures.specs.Bars.{IsPartOf, HasNoTime};
 
 use crate::arrows::Arrows;
 use crate::documents::write_document;
-use crate::note_lines::{Line, NoteLines, write_note_lines};
-use crate::objects::{Bar, count, exit, fault, parked, run, stall, wait, wake, weight};
+use crate::note_lines::{NoteLines, write_note_lines};
+use crate::objects::{Bar, Object};
 use crate::queue_lengths::{Count, Lengths, Stay};
 use crate::runners::{Runners, Running};
 use crate::sketches::Sketch;
@@ -101,33 +101,40 @@ impl TimelineSketch {
                 self.place(moment, task, None);
             }
             What::Stop(_, cpu) => self.stop(moment, cpu),
-            What::Weight(group, number) => self.weigh(moment, group, number),
+            What::Weight(group, weight) => self.weigh(moment, group, weight),
             What::Idle(_) | What::TaskWeight(_, _) => {}
-            What::Stall(task) => self.eject(moment, stall(moment, task)),
-            What::Fault(reason) => self.eject(moment, fault(moment, reason.number())),
-            What::Exit(code) => self.eject(moment, exit(moment, code)),
+            What::Stall(task) => self.eject(moment, Object::Stall { moment, task }),
+            What::Fault(reason) => {
+                let number = reason.number();
+                self.eject(moment, Object::Fault { moment, number });
+            }
+            What::Exit(code) => self.eject(moment, Object::Exit { moment, code }),
         }
     }
 
     fn wake(&mut self, moment: u64, task: u16) {
         self.arrows.wake(task, moment);
         if self.window.from <= moment && moment < self.window.to {
-            self.lines.second = Some(wake(moment, task));
+            self.lines.second = Some(Object::Wake { moment, task });
         }
     }
 
-    fn weigh(&mut self, moment: u64, group: u32, number: u32) {
+    fn weigh(&mut self, moment: u64, group: u32, weight: u32) {
         if !self.has_weights {
             return;
         }
         if let Some(moment) = told_at(self.window, moment) {
-            self.lines.second = Some(weight(moment, group, number));
+            self.lines.second = Some(Object::Weight {
+                moment,
+                group,
+                weight,
+            });
         }
     }
 
-    fn eject(&mut self, moment: u64, line: Line) {
+    fn eject(&mut self, moment: u64, ejection: Object) {
         if self.window.from <= moment && moment <= self.window.to {
-            self.lines.second = Some(line);
+            self.lines.second = Some(ejection);
         }
     }
 
@@ -139,7 +146,12 @@ impl TimelineSketch {
         let Running { task, since } = running;
         let arrow = self.arrows.stop(task);
         if let Some(bar) = bar_within(self.window, since, moment) {
-            self.lines.second = Some(run(cpu, task, bar, arrow));
+            self.lines.second = Some(Object::Run {
+                cpu,
+                task,
+                bar,
+                arrow,
+            });
         }
     }
 
@@ -160,20 +172,26 @@ impl TimelineSketch {
         let Some(bar) = bar_within(self.window, stay.since, moment) else {
             return;
         };
-        self.lines.first = Some(if stay.queue == PARKED {
-            parked(task, bar)
+        let Stay { queue, since } = stay;
+        self.lines.first = Some(if queue == PARKED {
+            Object::Parked { task, bar }
         } else {
-            let arrow = self.arrows.begin(task, stay.since);
-            wait(task, stay.queue, bar, arrow)
+            let arrow = self.arrows.begin(task, since);
+            Object::Wait {
+                task,
+                queue,
+                bar,
+                arrow,
+            }
         });
     }
 
-    fn one_less(&mut self, moment: u64, queue: u64) -> Option<Line> {
+    fn one_less(&mut self, moment: u64, queue: u64) -> Option<Object> {
         let moment = told_at(self.window, moment)?;
         line_of(self.lengths.take(moment, queue))
     }
 
-    fn one_more(&mut self, moment: u64, queue: u64) -> Option<Line> {
+    fn one_more(&mut self, moment: u64, queue: u64) -> Option<Object> {
         let moment = told_at(self.window, moment)?;
         line_of(self.lengths.add(moment, queue))
     }
@@ -222,8 +240,8 @@ fn stay_in(queue: Option<u64>, moment: u64) -> Option<Stay> {
     })
 }
 
-fn line_of(told: Option<Count>) -> Option<Line> {
-    Some(count(told?))
+fn line_of(told: Option<Count>) -> Option<Object> {
+    Some(Object::Length(told?))
 }
 
 impl Sketch for TimelineSketch {

@@ -7,7 +7,7 @@ returns-then-sketching-clause-failures g c =
     let sketched = run_is_sketched (λ s. s.out.ghost_name)
     (λ s. record { contents = g.W.Out.contents s.out.now; failures = g.W.Out.failure_count s.out.now; failed = s.failed })
     (λ s. g.S.Sketch.writes s.sketch.now (g.N.Names.lists s.names.now))
-    true _ _ _ _ _ (search rules) (search rules) c.observe.ensures in
+    true _ _ _ _ _ (search rules) (search rules) c.go_through.ensures in
     let same = sketched.0 in
     let failures = sketched.1 in
     search rules
@@ -17,7 +17,7 @@ returns-clause-ok g c =
     let sketched = run_is_sketched (λ s. s.out.ghost_name)
     (λ s. record { contents = g.W.Out.contents s.out.now; failures = g.W.Out.failure_count s.out.now; failed = s.failed })
     (λ s. g.S.Sketch.writes s.sketch.now (g.N.Names.lists s.names.now))
-    false _ _ _ _ _ (search rules) (search rules) c.observe.ensures in
+    false _ _ _ _ _ (search rules) (search rules) c.go_through.ensures in
     let same = sketched.0 in
     let text = sketched.1.0 in
     search rules
@@ -27,7 +27,7 @@ returns-clause-failures g c =
     let sketched = run_is_sketched (λ s. s.out.ghost_name)
     (λ s. record { contents = g.W.Out.contents s.out.now; failures = g.W.Out.failure_count s.out.now; failed = s.failed })
     (λ s. g.S.Sketch.writes s.sketch.now (g.N.Names.lists s.names.now))
-    false _ _ _ _ _ (search rules) (search rules) c.observe.ensures in
+    false _ _ _ _ _ (search rules) (search rules) c.go_through.ensures in
     let same = sketched.0 in
     let failures = sketched.1.1 in
     search rules
