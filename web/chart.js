@@ -9,7 +9,7 @@ const plotWidth = () => pixelsWide - plotLeft();
 const perPixel = () => (view.until - view.from) / plotWidth();
 const toPixel = (time) => (time - view.from) / (view.until - view.from) * plotWidth();
 const letters = (number) => (number >= 26 ? letters(Math.floor(number / 26) - 1) : "") + String.fromCharCode(65 + number % 26);
-const kindOf = (i) => run.cpu[i] !== NOWHERE ? 0 : run.queue[i] === PARKED ? 2 : 1;
+const kindOf = (i) => run.cpu[i] === SEVERAL ? 3 : run.cpu[i] !== NOWHERE ? 0 : run.queue[i] === PARKED ? 2 : 1;
 const isByTask = () => run.tasks.length <= 6 || run.groups.filter((group) => group.tasks.length).length === 1;
 const isFaint = (task) => view.chosen !== null && view.chosen.task !== task;
 const colourOf = (task) => (run.isByTask ? task : run.groups[run.tasks[task].group].leaf) % 6;
@@ -169,7 +169,8 @@ function drawTask(task, y, tall) {
     if (start >= x + 1) { x = Math.min(width, Math.floor(start)); continue; }
     if (end - start >= 2) {
       const x0 = offset + Math.max(x, Math.round(start)), x1 = offset + Math.min(width, Math.max(x + 1, Math.round(end)));
-      if (cpu[i] !== NOWHERE) drawBar(x0, x1, y, runTall, task);
+      if (cpu[i] === SEVERAL) drawPiece(x0, x1, shades, i);
+      else if (cpu[i] !== NOWHERE) drawBar(x0, x1, y, runTall, task);
       else drawWait(x0, x1, queue[i]);
       x = x1 - offset; i++;
     } else {
@@ -190,11 +191,20 @@ function drawWakes(first, last, y) {
 }
 
 function taskCell(x, shades, { i, next, last, begin, rest, step }) {
-  const kind = kindOf(i), then = next < last ? kindOf(next) : 3;
-  const part = (before, number) => (before[next] - before[i] - (kind === number ? begin : 0) + (then === number ? rest : 0)) / step;
-  shade(high, x, shades, part(run.ranBefore, 0));
-  shade(low, x, palette.waitShades, part(run.waitedBefore, 1));
-  shade(low, x, palette.parkedShades, part(run.parkedBefore, 2));
+  const { length } = run, then = (before) => next < last ? partOf(length, before, next, rest) : 0;
+  const part = (before) => (before[next] - before[i] - partOf(length, before, i, begin) + then(before)) / step;
+  shadeTimes(x, shades, part);
+}
+
+function shadeTimes(x, shades, part) {
+  shade(high, x, shades, part(run.ranBefore));
+  shade(low, x, palette.waitShades, part(run.waitedBefore));
+  shade(low, x, palette.parkedShades, part(run.parkedBefore));
+}
+
+// A piece has the same shades all over.
+function drawPiece(x0, x1, shades, i) {
+  for (let x = x0; x < x1; x++) shadeTimes(x, shades, (before) => partOf(run.length, before, i, 1));
 }
 
 function drawWait(x0, x1, queue) {

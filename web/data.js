@@ -3,8 +3,10 @@
 // A stretch is 16 bytes: from, length (u32 ms), task (u16), processor (u8), why (u8), queue (u16), 2 spare. The bits 64 and
 // 128 of why say that it began, and that it ended, as a millisecond ended: at a clock that is one less.
 // Times are counted from the beginning of what is shown, which need not be that of the run: see momentText.
+// Of a run that has too many, those that are together no longer than `together` are one piece: from, length and parked (u16),
+// task, SEVERAL, 0, ran and waited (u16). CPUs and queues aren't known then.
 const MOST_CPUS = 16;  // more fold at first
-const NOWHERE = 255, GLOBAL = 16, HELD = 17, BUILTIN = 18, PARKED = 19, LOCAL = 20, NO_QUEUE = 65535;
+const NOWHERE = 255, SEVERAL = 254, GLOBAL = 16, HELD = 17, BUILTIN = 18, PARKED = 19, LOCAL = 20, NO_QUEUE = 65535;
 const WHY_RUN = ["the run was over", "it was stopped: its slice was used up and another came", "it went to sleep",
   "its group had used its quota, and it was parked", "", "", "", "this part of the run was over"];
 const WHY_WAIT = ["the run was over", "", "it went to sleep", "it was parked", "it ran", "it went to another queue",
@@ -32,12 +34,12 @@ function readRun() {
   element("stretches").remove();
   const words = new Uint32Array(bytes.buffer, bytes.byteOffset, bytes.length >> 2), count = words.length >> 2;
   const tasks = head.tasks.length, processors = head.processors;
-  const run = { ...head, ...tail, count, begin: head.from, duration: head.to - head.from,
+  const run = { ...head, ...tail, count, begin: head.from, duration: head.to - head.from, isMerged: head.together !== undefined,
     taskStart: new Uint32Array(tasks + 1), cpuStart: new Uint32Array(processors + 1) };
   for (let i = 0; i < count; i++) {
     const word = words[4 * i + 2], cpu = word >>> 16 & 255;
     run.taskStart[(word & 65535) + 1]++;
-    if (cpu !== NOWHERE) run.cpuStart[cpu + 1]++;
+    if (cpu !== NOWHERE && !run.isMerged) run.cpuStart[cpu + 1]++;
   }
   for (let i = 0; i < tasks; i++) run.taskStart[i + 1] += run.taskStart[i];
   for (let i = 0; i < processors; i++) run.cpuStart[i + 1] += run.cpuStart[i];
@@ -55,6 +57,7 @@ function placeStretches(run, words) {
     from: new Uint32Array(count), length: new Uint32Array(count), queue: new Uint16Array(count),
     cpu: new Uint8Array(count), why: new Uint8Array(count),
     cpuFrom: new Uint32Array(runs), cpuLength: new Uint32Array(runs), cpuTask: new Uint16Array(runs),
+    pieceWaited: new Uint16Array(run.isMerged ? count : 0), pieceParked: new Uint16Array(run.isMerged ? count : 0),
   });
   const nextTask = taskStart.slice(), nextCpu = cpuStart.slice();
   for (let i = 0; i < count; i++) {
@@ -64,7 +67,8 @@ function placeStretches(run, words) {
     run.cpu[at] = cpu;
     run.why[at] = word >>> 24;
     run.queue[at] = words[4 * i + 3];
-    if (cpu !== NOWHERE) {
+    if (cpu === SEVERAL) placePiece(run, at, words[4 * i + 1], words[4 * i + 3]);
+    if (cpu !== NOWHERE && !run.isMerged) {
       const place = nextCpu[cpu]++;
       run.cpuFrom[place] = run.from[at];
       run.cpuLength[place] = words[4 * i + 1];
@@ -72,3 +76,17 @@ function placeStretches(run, words) {
     }
   }
 }
+
+// A piece has in place of the queue the time for which the task ran.
+function placePiece(run, at, times, more) {
+  run.length[at] = times & 65535;
+  run.pieceParked[at] = times >>> 16;
+  run.pieceWaited[at] = more >>> 16;
+}
+
+// For how long the task ran, waited and was parked in a stretch, or in those of a piece.
+const ranIn = ({ cpu, queue, length }, i) => cpu[i] === SEVERAL ? queue[i] : cpu[i] === NOWHERE ? 0 : length[i];
+const waitedIn = ({ cpu, queue, length, pieceWaited }, i) =>
+  cpu[i] === SEVERAL ? pieceWaited[i] : cpu[i] === NOWHERE && queue[i] !== PARKED ? length[i] : 0;
+const parkedIn = ({ cpu, queue, length, pieceParked }, i) =>
+  cpu[i] === SEVERAL ? pieceParked[i] : cpu[i] === NOWHERE && queue[i] === PARKED ? length[i] : 0;

@@ -15,6 +15,7 @@ function taskStretch(task, time, row) {
 }
 
 function describe({ index, task, from, until }) {
+  if (run.cpu[index] === SEVERAL) return describePiece(index, task, from, until);
   const ran = run.cpu[index] !== NOWHERE, queue = run.queue[index], why = run.why[index], began = BEGAN[why >> 4 & 3];
   const what = ran ? "ran on CPU " + run.cpu[index] : queue === PARKED ? "was parked" : "waited";
   const [begin, end] = ran ? [from, until] : [clockFrom(run, index), clockUntil(run, index)];
@@ -22,6 +23,12 @@ function describe({ index, task, from, until }) {
   const where = queue === NO_QUEUE ? "" : (ran ? "it came from " : "in ") + queueName(run, queue);
   const lines = [run.tasks[task].name + " " + what, when + (began && "; " + began), "then " + (ran ? WHY_RUN : WHY_WAIT)[why & 7], where];
   return [...lines.filter(Boolean), ...boundWords(run.tasks[task])];
+}
+
+function describePiece(index, task, from, until) {
+  const parked = parkedIn(run, index), words = "ran " + timeText(ranIn(run, index)) + ", waited " + timeText(waitedIn(run, index));
+  return [run.tasks[task].name + ", several stretches", "from " + momentText(from) + " to " + momentText(until),
+    words + (parked > 0 ? ", was parked " + timeText(parked) : ""), ...boundWords(run.tasks[task])];
 }
 
 // The CPUs on which a task may run, if it may not run on all.
@@ -50,7 +57,7 @@ function stretchNear(row, time) {
 function describePlace(row, time) {
   const at = Math.floor(time);
   if (row.kind === "cpu") return ["CPU " + row.number + " idle", ...waitingWords(at, row)];
-  if (row.kind === "section" && row.folded && row.key === "cpus") return describeAllCpus(at);
+  if (row.kind === "section" && row.folded && row.key === "cpus") return run.isMerged ? null : describeAllCpus(at);
   if (row.kind === "track") {
     const track = run.tracks[row.number], length = lengthOfTrack(track, at, Math.min(run.duration, at + 1));
     return [track.name, (track.cell > 1 ? length.toFixed(1) + " tasks on average" : tasksText(length)) + " at " + momentText(at)];
@@ -268,8 +275,9 @@ function fillFigures() {
     [run.groups[g].name + (isCapped ? " (quota used up)" : ""), percent(share), percent(due)]));
   fillTable(element("cpus"), ["CPU", "busy ms", "idle ms", "of it a task waited"], cpus.map(({ busy, idle, waits }, cpu) =>
     [String(cpu), busy, idle, waits]));
-  fillTable(element("tasks"), ["task", "ran ms", "waited ms", "longest"], tasks.map(({ ran, waited, longest }, task) =>
-    [run.tasks[task].name, ran, waited, longest]), (name) => findTask(name));
+  const columns = run.isMerged ? 3 : 4, heads = ["task", "ran ms", "waited ms", "longest"].slice(0, columns);
+  fillTable(element("tasks"), heads, tasks.map(({ ran, waited, longest }, task) =>
+    [run.tasks[task].name, ran, waited, longest].slice(0, columns)), (name) => findTask(name));
 }
 
 function fillWaits() {
@@ -278,7 +286,8 @@ function fillWaits() {
     const button = node("button", words, node("li", "", element("waits")), { type: "button", class: wait.alarming ? "wrong" : "" });
     button.onclick = () => jump(wait);
   }
-  if (run.worst.length === 0) node("p", "No task waited.", element("waits").parentNode, { class: "faint" });
+  const none = run.isMerged ? "No stretch of waiting is longer than " + timeText(run.together) + "." : "No task waited.";
+  if (run.worst.length === 0) node("p", none, element("waits").parentNode, { class: "faint" });
 }
 
 function setRange(range) {

@@ -17,7 +17,7 @@ function legendItems() {
   const add = (words, tile, kind) => items.push([words, (brush) => paintTile(brush, TILES[tile], names[kind], names[kind + "Paper"])]);
   items.push([run.isByTask ? "runs (letter and colour: its task)" : "runs (letter: its task; colour: its group)",
     (brush) => paintBoxes(brush, [0, 1].flatMap(barBoxes))]);
-  if (run.processors > MOST_CPUS) addArea(items);
+  if (run.processors > MOST_CPUS || run.isMerged) addArea(items);
   for (const queue of all) if (queue < LOCAL) add(WAIT_WORDS[queue] ?? "waits in " + queueName(run, queue), tileOf(queue), "wait");
   if (all.some(isLocal)) add("waits in a CPU's own queue", tileOf(LOCAL), "wait");
   if (run.parkedBefore[run.count] > 0) add("parked: quota used up", tileOf(PARKED), "parked");
@@ -36,8 +36,11 @@ function legendItems() {
 function addArea(items) {
   const isOne = run.groups.filter((group) => group.tasks.length).length === 1, { names } = palette;
   const boxes = isOne ? [[names.several, 0, 5, 30, 9]] : [[names.tasks[0], 0, 9, 30, 5], [names.tasks[1], 0, 5, 30, 4]];
-  items.push(["all CPUs as an area: those that ran" + (isOne ? "" : ", by group") + "; hatched: idle while a task waits; the rest: idle",
-    (brush) => { paintBoxes(brush, boxes); paintTile(brush, TILES[WRONG_TILE], names.wrong, names.paper, 2, 5); }]);
+  const rest = run.isMerged ? "; the rest: idle" : "; hatched: idle while a task waits; the rest: idle";
+  items.push(["all CPUs as an area: those that ran" + (isOne ? "" : ", by group") + rest, (brush) => {
+    paintBoxes(brush, boxes);
+    if (!run.isMerged) paintTile(brush, TILES[WRONG_TILE], names.wrong, names.paper, 2, 5);
+  }]);
 }
 
 const barBoxes = (k) => [[hexOf(palette.edges[k]), 16 * k, 0, 14, 14], [palette.names.tasks[k], 16 * k + 1, 1, 12, 12]];
@@ -78,11 +81,20 @@ function fillTitle() {
   element("ended").className = run.ended.at === undefined ? "fine" : "wrong";
   const count = (number, one, many = one + "s") => number.toLocaleString("en") + " " + (number === 1 ? one : many);
   element("facts").textContent = [count(run.processors, "CPU"), count(run.tasks.length, "task"), lengthWords(),
-    count(run.count, "stretch", "stretches")].join(" · ");
+    ...(run.isMerged ? [] : [count(run.count, "stretch", "stretches")])].join(" · ");
+  if (run.isMerged) tellMerged();
   element("ejection").hidden = !isEjectionShown();
   element("facts").title = element("facts").textContent;
   element("worst").disabled = run.worst.length === 0;
-  element("nothing").hidden = run.cpuFrom.length > 0;
+  element("nothing").hidden = run.ranBefore[run.count] > 0;
   const where = run.begin > 0 || run.duration < run.ms ? "in this part" : "in this run";
   element("nothing").textContent = run.count > 0 ? "No task ran " + where + "." : "No task ran or waited " + where + ".";
+}
+
+// What a page of pieces doesn't have.
+function tellMerged() {
+  element("merged").textContent = "Stretches that together last at most " + timeText(run.together) + " are drawn as one, " +
+    "without their CPUs and queues. What waited and is due is estimated. scxsim view-part has all of a part.";
+  element("merged").hidden = false;
+  element("cpus").parentNode.hidden = true;
 }

@@ -43,7 +43,7 @@ function goTo(kind, number, from, until) {
 
 function fold(row) {
   const key = row.kind === "group" ? row.number : row.key;
-  if (key === undefined) return;
+  if (key === undefined || key === "cpus" && run.isMerged) return;
   if (!view.folded.delete(key)) view.folded.add(key);
   makeRows();
   tell(rowTitle(view.rows[view.row]));

@@ -7,7 +7,7 @@ function start() {
   view.until = run.duration;
   const mean = run.cpuFrom.length ? run.cpuBefore[run.cpuFrom.length] / run.cpuFrom.length : 1;
   view.window = Math.min(run.duration / 4, Math.max(10 * mean / Math.min(4, run.processors), run.duration / 150));
-  if (run.processors > MOST_CPUS) view.folded.add("cpus");
+  if (run.processors > MOST_CPUS || run.isMerged) view.folded.add("cpus");
   if (run.processors > MOST_CPUS || run.tracks.length > 4 || run.tasks.length > 64) view.folded.add("queues");
   foldLargest();
   const most = Math.max(0, ...run.groups.map((group) => Math.max(group.share, group.due)));

@@ -42,9 +42,12 @@ function eachRun(run, cpu, from, until, act) {
 // The time that each task ran on all CPUs in a window, the longest first.
 function whoRan(run, from, until) {
   const sums = new Map();
-  for (let cpu = 0; cpu < run.processors; cpu++) eachRun(run, cpu, from, until, (task, ran) => sums.set(task, (sums.get(task) ?? 0) + ran));
+  if (run.isMerged) run.tasks.forEach((_, task) => addRan(sums, task, timeOf(run, run.ranBefore, task, from, until)));
+  for (let cpu = 0; cpu < run.processors; cpu++) eachRun(run, cpu, from, until, (task, ran) => addRan(sums, task, ran));
   return [...sums].map(([task, ran]) => ({ task, ran })).sort((one, other) => other.ran - one.ran);
 }
+
+const addRan = (sums, task, ran) => { if (ran > 0) sums.set(task, (sums.get(task) ?? 0) + ran); };
 
 // The figures of a window: run time, waited time and longest wait of each task, share and due of each group, and of each
 // CPU the time that it was busy, idle, and idle while a task waited.
@@ -56,7 +59,7 @@ function figuresOf(run, from, until) {
     for (let g = group; g >= 0; g = groups[g].parent) ranOfGroup[g] += figures.ran;
     return figures;
   });
-  const busy = cpus.reduce((sum, cpu) => sum + cpu.busy, 0) || 1;
+  const busy = tasks.reduce((sum, { ran }) => sum + ran, 0) || 1;
   const ofGroups = groups.map((_, g) => ({ share: ranOfGroup[g] / busy, due: within(sums, sums.due, g * sums.row, from, until) / busy,
     isCapped: within(sums, sums.parked, g * sums.row, from, until) > 0 }));
   return { tasks, groups: ofGroups, cpus };
@@ -77,7 +80,8 @@ function busyUntil({ waitsOn, cpuFrom, cpuLength, cpuStart, cpuBefore, cpuWaited
 }
 
 function figuresOfTask(run, task, from, until) {
-  const { waits, waitStart } = run, figures = { ran: ranUntil(run, task, until) - ranUntil(run, task, from), waited: 0, longest: 0 };
+  const { waits, waitStart } = run, waited = run.isMerged ? timeOf(run, run.mergedBefore, task, from, until) : 0;
+  const figures = { ran: timeOf(run, run.ranBefore, task, from, until), waited, longest: 0 };
   const end = waitStart[task + 1];
   for (let k = firstAfter(waits.from, waits.length, waitStart[task], end, from); k < end && waits.from[k] <= until; k++) {
     const length = waitIn(run, k, from, until);
@@ -87,7 +91,12 @@ function figuresOfTask(run, task, from, until) {
   return figures;
 }
 
-function ranUntil({ from, length, cpu, taskStart, ranBefore }, task, time) {
+// What a sum of times before each stretch says of a window. The times of a piece are spread over it.
+const timeOf = (run, before, task, from, until) => Math.round(timeUntil(run, before, task, until) - timeUntil(run, before, task, from));
+
+function timeUntil({ from, length, taskStart }, before, task, time) {
   const last = taskStart[task + 1], i = firstAfter(from, length, taskStart[task], last, time);
-  return ranBefore[i] + (i < last && cpu[i] !== NOWHERE ? Math.max(0, time - from[i]) : 0);
+  return before[i] + (i < last ? partOf(length, before, i, Math.max(0, time - from[i])) : 0);
 }
+
+const partOf = (length, before, i, time) => (before[i + 1] - before[i]) * time / (length[i] || 1);

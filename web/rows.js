@@ -16,8 +16,8 @@ function makeRows() {
     return !folded;
   };
   if (addSection("cpus", run.processors === 1 ? "CPU" : run.processors + " CPUs", run.processors > MOST_CPU_ROWS ? 104 : 56))
-    for (let cpu = 0; cpu < run.processors; cpu++) add({ kind: "cpu", number: cpu, high: thin ? 9 : 28 });
-  if (run.tracks.length > 0 && addSection("queues", "Queues", 24))
+    for (let cpu = 0; cpu < run.idle.length; cpu++) add({ kind: "cpu", number: cpu, high: thin ? 9 : 28 });
+  if (run.tracks.length > 0 && !run.isMerged && addSection("queues", "Queues", 24))
     run.tracks.forEach((_, number) => add({ kind: "track", number, high: 30 }));
   add({ kind: "section", name: view.wide ? "Groups and tasks" : "Tasks", high: 24 });
   run.groups.forEach((group, g) => { if (group.parent < 0) addGroup(g, 0); });
@@ -123,7 +123,7 @@ const NAMES = {
     write((row.key ? foldMark(row) : "") + row.name, 6, y + 13, ink, 12, 600, left() - 10);
     if (!row.folded || row.key !== "cpus") return;
     const idle = run.idle.reduce((sum, one) => sum + one, 0) / all;
-    write("busy " + percent(run.cpuBefore[run.cpuFrom.length] / all), 18, y + 29, faint, 11, 400, left() - 22);
+    write("busy " + percent(run.ranBefore[run.count] / all), 18, y + 29, faint, 11, 400, left() - 22);
     if (idle > 0) write("idle, a task waits " + percent(idle), 18, y + 44, wrongInk, 11, 400, left() - 22);
   },
   cpu({ number, high }, y) {

@@ -1,17 +1,17 @@
 // Sums up to each moment: run, waited and parked time, of tasks, CPUs and groups, and all waits.
 // Sums up to each stretch, and up to each run of a CPU.
 function sumStretches(run) {
-  const { count, from, length, cpu, queue } = run, wakes = [];
+  const { count, from } = run, wakes = [];
   for (const before of ["ranBefore", "waitedBefore", "parkedBefore", "wakesBefore"]) run[before] = new Uint32Array(count + 1);
   for (let i = 0; i < count; i++) {
-    const ran = cpu[i] !== NOWHERE, parked = !ran && queue[i] === PARKED;
-    run.ranBefore[i + 1] = run.ranBefore[i] + (ran ? length[i] : 0);
-    run.parkedBefore[i + 1] = run.parkedBefore[i] + (parked ? length[i] : 0);
-    run.waitedBefore[i + 1] = run.waitedBefore[i] + (ran || parked ? 0 : length[i]);
-    if (isWake(run, i)) wakes.push(from[i]);
+    run.ranBefore[i + 1] = run.ranBefore[i] + ranIn(run, i);
+    run.parkedBefore[i + 1] = run.parkedBefore[i] + parkedIn(run, i);
+    run.waitedBefore[i + 1] = run.waitedBefore[i] + waitedIn(run, i);
+    if (isWake(run, i) && !run.isMerged) wakes.push(from[i]);
     run.wakesBefore[i + 1] = wakes.length;
   }
   run.wakeTimes = Uint32Array.from(wakes);
+  if (run.isMerged) sumPieces(run);
   sumRuns(run);
   sumGroups(run);
   sumQueues(run);
@@ -19,9 +19,16 @@ function sumStretches(run) {
   findWaits(run);
 }
 
+// The time for which tasks waited in pieces, before each stretch.
+function sumPieces(run) {
+  run.mergedBefore = new Uint32Array(run.count + 1);
+  for (let i = 0; i < run.count; i++) run.mergedBefore[i + 1] = run.mergedBefore[i] + (run.cpu[i] === SEVERAL ? run.pieceWaited[i] : 0);
+}
+
 // Of each CPU the time before each run for which it was busy, and the part of it in which a task waited, and the whole time
-// for which it was idle while one waited.
+// for which it was idle while one waited. Pieces don't say it.
 function sumRuns(run) {
+  if (run.isMerged) return sumNoRuns(run);
   const { cpuFrom, cpuLength, cpuStart, processors, duration } = run, runs = cpuFrom.length;
   Object.assign(run, countWaits(run, () => true));
   run.waitsOn = waitsOnCpus(run);
@@ -39,6 +46,12 @@ function sumRuns(run) {
   }
   run.idle = Array.from({ length: processors }, (_, cpu) => figuresOfCpu(run, cpu, 0, duration).waits);
   run.lost = lostTimes(run);
+}
+
+function sumNoRuns(run) {
+  const [someWaited, onlyParked] = [0, 1].map(() => new Uint32Array(run.duration + 2));
+  Object.assign(run, { waitsOn: [], idle: [], idleByQuota: 0, lost: { duration: run.duration, someWaited, onlyParked } });
+  for (const before of ["cpuBefore", "cpuWaitedBefore"]) run[before] = new Uint32Array(1);
 }
 
 // For each millisecond the time before it for which CPUs, added up, were idle while a task waited that may run there, and while
@@ -136,17 +149,25 @@ function linkGroups(groups, tasks) {
 }
 
 function sumLeaf(run, group, { cell, row }, slices) {
-  const kinds = slices.map(() => ({ offsets: new Int32Array(row + 1), counts: new Int32Array(row + 1) }));
+  const Numbers = run.isMerged ? Float64Array : Int32Array;
+  const kinds = slices.map(() => ({ offsets: new Numbers(row + 1), counts: new Numbers(row + 1) }));
   for (const task of group.tasks) {
     for (let i = run.taskStart[task]; i < run.taskStart[task + 1]; i++) {
       const kind = run.cpu[i] !== NOWHERE ? 0 : run.queue[i] === PARKED ? 2 : 1;
-      addInterval(kinds[kind], cell, run.from[i], run.from[i] + run.length[i]);
+      if (run.cpu[i] === SEVERAL) addPiece(run, kinds, cell, i);
+      else addInterval(kinds[kind], cell, run.from[i], run.from[i] + run.length[i]);
     }
   }
   slices.forEach((slice, kind) => {
     const { offsets, counts } = kinds[kind];
-    for (let k = 0, sum = 0, count = 0; k < row; count += counts[k], k++) slice[k] = sum += cell * count + offsets[k];
+    for (let k = 0, sum = 0, count = 0; k < row; count += counts[k], k++) slice[k] = Math.round(sum += cell * count + offsets[k]);
   });
+}
+
+// The times of a piece are spread over it.
+function addPiece(run, kinds, cell, i) {
+  const from = run.from[i], length = run.length[i] || 1, times = [ranIn(run, i), waitedIn(run, i), parkedIn(run, i)];
+  times.forEach((time, kind) => { if (time > 0) addInterval(kinds[kind], cell, from, from + length, time / length); });
 }
 
 // What is due to a group in a cell is its part by weight of what is due to its parent, or of all that ran. In a period of
@@ -236,11 +257,11 @@ function sumQueues(run) {
   for (const track of run.tracks) sumTrack(track, row);
 }
 
-// Adds an interval to differences from which the sums before each cell are made.
-function addInterval({ offsets, counts }, cell, from, until) {
+// Adds an interval, or that part of it, to differences from which the sums before each cell are made.
+function addInterval({ offsets, counts }, cell, from, until, part = 1) {
   const first = Math.ceil(from / cell), last = Math.ceil(until / cell);
-  offsets[first] += first * cell - from; counts[first]++;
-  offsets[last] -= last * cell - until; counts[last]--;
+  offsets[first] += part * (first * cell - from); counts[first] += part;
+  offsets[last] -= part * (last * cell - until); counts[last] -= part;
 }
 
 function sumTrack(track, row) {
@@ -283,7 +304,7 @@ const isStopped = ({ cpu, why }, i) => cpu[i] !== NOWHERE && (why[i] & 7) === 1;
 // True if a millisecond by the clock is between the end of a run and the task's next run, or the end, and no stretch.
 function hasNoWait(run, i, end) {
   const until = run.from[i] + run.length[i], next = i + 1 < end && run.from[i + 1] === until;
-  if (next && run.cpu[i + 1] === NOWHERE) return false;
+  if (next && run.cpu[i + 1] >= SEVERAL) return false;
   return next ? clockUntil(run, i) < clockFrom(run, i + 1) : until === run.duration && clockUntil(run, i) < until;
 }
 
@@ -300,7 +321,7 @@ function listWaits(run) {
       from[count] = hasStretch ? run.from[first] : end;
       length[count] = hasStretch ? run.from[last] + run.length[last] - run.from[first] : 0;
       clock[count] = hasStretch ? clockFrom(run, first) : end - 1;
-      isCut[count] = hasStretch ? isCutWait(run, first, last) : end === run.duration && run.begin + end < run.ms;
+      isCut[count] = hasStretch ? isCutWait(run, task, first, last) : end === run.duration && run.begin + end < run.ms;
       const later = hasStretch ? (run.why[first] >> 6 & 1) - (run.why[last] >> 7) : 1;
       less[count] = later < 0 ? 1 : 0;
       more[count++] = later > 0 && !(hasStretch && isLate(run, last)) ? 1 : 0;
@@ -312,7 +333,14 @@ function listWaits(run) {
 
 // True if a stretch goes on after what is shown.
 const isLate = ({ why }, i) => (why[i] & 7) === 7;
-const isCutWait = (run, first, last) => isLate(run, last) || run.begin > 0 && run.from[first] === 0 && (run.why[first] & 48) === 0;
+const isCutWait = (run, task, first, last) => isLate(run, last) || goesOnInPiece(run, task, first, last) ||
+  run.begin > 0 && run.from[first] === 0 && (run.why[first] & 48) === 0;
+
+// True if a wait may be longer than its stretches, since others of it are in a piece.
+function goesOnInPiece({ cpu, why, taskStart }, task, first, last) {
+  const wentOn = (why[last] & 7) === 5 && last + 1 < taskStart[task + 1] && cpu[last + 1] === SEVERAL;
+  return wentOn || (why[first] & 48) === 0 && first > taskStart[task] && cpu[first - 1] === SEVERAL;
+}
 
 // The milliseconds of a wait in a window: those by ticks. If it ends there, it is as long as by the clock, but longer only
 // in a window that begins with the run.
@@ -335,7 +363,7 @@ function findWaits(run) {
     run.waited[task] += length;
     run.longest[task] = Math.max(run.longest[task], length);
     const isStall = task === ended.task && from < ended.at && until >= ended.at;
-    const isAmong = length > 0 && (worst.length < 20 || length > worst[19].length);
+    const isAmong = length > (run.together ?? 0) && (worst.length < 20 || length > worst[19].length);
     if (!isStall && !isAmong && length * 20 < duration) return;
     const wait = { task, from, until, clock, length, isStall, isCut: waits.isCut[k] > 0 };
     if (isStall || length * 20 >= duration) long.push(wait);

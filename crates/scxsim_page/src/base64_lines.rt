@@ -1,7 +1,8 @@
-use crate::stretches::{End, NOTHING, Stretch};
+use crate::piece_bytes::{rest_of, times_of};
+use scxsim_template::{NONE, Piece};
 
-/// The number of stretches in a line of a page.
-const STRETCHES: usize = 3;
+/// The number of pieces in a line of a page.
+const PIECES: usize = 3;
 
 /// The number of letters that are written at once: those of 16 lines.
 const BLOCK: usize = 1040;
@@ -9,10 +10,10 @@ const BLOCK: usize = 1040;
 /// The letters of base64, by number.
 const LETTERS: [u8; 64] = *b"ABCDEFGHIJKLMNOPQRSTUVWXYZabcdefghijklmnopqrstuvwxyz0123456789+/";
 
-/// Lines of stretches in base64: stretches that aren't a line yet, and lines that aren't written yet.
+/// Lines of pieces in base64: pieces that aren't a line yet, and lines that aren't written yet.
 #[derive(Drop)]
 pub(crate) struct Base64Lines {
-    stretches: [Stretch; STRETCHES],
+    pieces: [Piece; PIECES],
     count: usize,
     letters: [u8; BLOCK],
     length: usize,
@@ -21,29 +22,29 @@ pub(crate) struct Base64Lines {
 impl Base64Lines {
     pub(crate) fn new() -> Base64Lines {
         Base64Lines {
-            stretches: [NOTHING; STRETCHES],
+            pieces: [NONE; PIECES],
             count: 0,
             letters: [0; BLOCK],
             length: 0,
         }
     }
 
-    /// Adds a stretch. It can be changed until the next one comes.
+    /// Adds a piece. It can be changed until the next one comes.
     #[inline(always)]
-    pub(crate) fn add(&mut self, stretch: Stretch) {
-        if self.count >= STRETCHES {
+    pub(crate) fn add(&mut self, piece: Piece) {
+        if self.count >= PIECES {
             self.end_line();
         }
-        if let Some(place) = self.stretches.get_mut(self.count) {
-            *place = stretch;
+        if let Some(place) = self.pieces.get_mut(self.count) {
+            *place = piece;
         }
         self.count = self.count.saturating_add(1);
     }
 
-    /// The task of the last stretch was parked.
+    /// The task of the last piece was parked.
     pub(crate) fn park_last(&mut self) {
-        if let Some(last) = self.stretches.get_mut(self.count.saturating_sub(1)) {
-            last.end = End::Parked;
+        if let Some(last) = self.pieces.get_mut(self.count.saturating_sub(1)) {
+            *last = last.with_park();
         }
     }
 
@@ -69,7 +70,7 @@ impl Base64Lines {
         }
     }
 
-    /// Makes the last line, of the remaining stretches. It is shorter if they are fewer than three.
+    /// Makes the last line, of the remaining pieces. It is shorter if they are fewer than three.
     pub(crate) fn end(&mut self) {
         let start = self.length;
         let count = self.count;
@@ -84,16 +85,16 @@ impl Base64Lines {
         }
     }
 
-    /// Puts stretches of no time in place of those that a line lacks.
+    /// Puts pieces of no time in place of those that a line lacks.
     fn fill_line(&mut self) {
         if self.count < 1 {
-            self.stretches[0] = NOTHING;
+            self.pieces[0] = NONE;
         }
         if self.count < 2 {
-            self.stretches[1] = NOTHING;
+            self.pieces[1] = NONE;
         }
         if self.count < 3 {
-            self.stretches[2] = NOTHING;
+            self.pieces[2] = NONE;
         }
     }
 
@@ -103,7 +104,7 @@ impl Base64Lines {
         self.push(end.as_bytes());
     }
 
-    /// Makes a line of three stretches.
+    /// Makes a line of three pieces.
     fn end_line(&mut self) {
         for bits in self.numbers() {
             self.push(&eight_letters(bits));
@@ -112,14 +113,14 @@ impl Base64Lines {
         self.count = 0;
     }
 
-    /// The 48 bytes of three stretches, in the low six bytes of each number.
+    /// The 48 bytes of three pieces, in the low six bytes of each number.
     fn numbers(&self) -> [u64; 8] {
-        let first = self.stretches[0];
-        let second = self.stretches[1];
-        let third = self.stretches[2];
-        let (a, b) = (first.times(), first.rest());
-        let (c, d) = (second.times(), second.rest());
-        let (e, f) = (third.times(), third.rest());
+        let first = self.pieces[0];
+        let second = self.pieces[1];
+        let third = self.pieces[2];
+        let (a, b) = (times_of(first), rest_of(first));
+        let (c, d) = (times_of(second), rest_of(second));
+        let (e, f) = (times_of(third), rest_of(third));
         [
             a >> 16,
             (a << 32) | (b >> 32),

@@ -23,17 +23,19 @@ pub(crate) struct Draft {
 }
 
 impl Draft {
-    /// A draft before the first event. Takes all of its memory.
+    /// A draft before the first event. Takes all of its memory. Stretches that are together no longer than `width` are
+    /// drawn together, if it is given.
     pub(crate) fn new(
         alloc: Global,
         paths: Paths<'_>,
         scenario: &Scenario,
         window: Window,
+        width: Option<u64>,
     ) -> Result<Draft, AllocError> {
         let tasks = scenario.workload().tasks().len();
         Ok(Draft {
-            head: head(alloc, paths, scenario, window)?,
-            recording: Recording::new(alloc, tasks, window)?,
+            head: head(alloc, paths, scenario, window, width)?,
+            recording: Recording::new(alloc, tasks, window, width)?,
             is_over: false,
         })
     }

@@ -17,26 +17,36 @@ pub struct Paths<'a> {
 /// The most characters of a file's name in a page.
 const MOST: usize = 40;
 
-/// The names of the files, and the contents of the workload or of the file of events, as JSON. No name of a task or a
-/// group has a character that would have to be quoted.
+/// The names of the files, and the contents of the workload or of the file of events, as JSON, and up to what length
+/// stretches are drawn together, if they are. No name of a task or a group has a character that would have to be quoted.
 pub(crate) fn head(
     alloc: Global,
     paths: Paths<'_>,
     scenario: &Scenario,
     window: Window,
+    width: Option<u64>,
 ) -> Result<String, AllocError> {
     let mut text = Text::new(alloc);
-    push_head(&mut text, paths, scenario, window);
+    push_head(&mut text, paths, scenario, window, width);
     text.finish()
 }
 
-fn push_head(text: &mut Text, paths: Paths<'_>, scenario: &Scenario, window: Window) {
+fn push_head(
+    text: &mut Text,
+    paths: Paths<'_>,
+    scenario: &Scenario,
+    window: Window,
+    width: Option<u64>,
+) {
     let contents = scenario.workload();
     text.push("<script id=\"head\" type=\"application/json\">{\"policy\":\"");
     push_name(text, paths.policy);
     text.push("\",\"workload\":\"");
     push_name(text, paths.workload);
     push_lengths(text, contents, window);
+    if let Some(width) = width {
+        text.number(",\"together\":", width);
+    }
     text.push(",\"groups\":[");
     push_groups(text, contents);
     text.push("],\"tasks\":[");

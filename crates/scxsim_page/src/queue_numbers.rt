@@ -1,5 +1,6 @@
 use arrayvec::ArrayVec;
 use scx_sched_world::{BUILTIN, GLOBAL, HELD, PARKED, POLICY_END};
+use scxsim_template::PARKED_NUMBER;
 
 /// The most queues of a policy.
 pub(crate) const POLICY_QUEUES: usize = 16;
@@ -9,8 +10,6 @@ const GLOBAL_NUMBER: u16 = 16;
 const HELD_NUMBER: u16 = 17;
 
 const BUILTIN_NUMBER: u16 = 18;
-
-pub(crate) const PARKED_NUMBER: u16 = 19;
 
 /// The number of CPU 0's own queue; those of the others come after it.
 pub(crate) const LOCAL_NUMBER: u16 = 20;

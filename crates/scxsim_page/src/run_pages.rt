@@ -3,7 +3,7 @@ ghost use Rattle.std.specs.Io.KnownBytes.{Appends};
 ghost use Rattle.scxsim_output.specs.Output.{HasFailed};
 ghost use Rattle.scxsim_commands.specs.Outcome.{IfRefused, IsRefused};
 ghost use Rattle.scxsim_commands.specs.declared.refusal.Refusal.TheVariants.{NoMemory};
-ghost use Rattle.scxsim_page.specs.Pages.{page, IsPast, IsPageCause};
+ghost use Rattle.scxsim_page.specs.Pages.{page, IsPast, IsPastPart, IsPageCause, IsWidth, surely_fits, window_length};
 
 use crate::drafts::Draft;
 use crate::heads::Paths;
@@ -14,15 +14,15 @@ use scxsim_commands::{Fault, MOST_STRETCHES, Refusal, Span, Window};
 use scxsim_output::Out;
 use scxsim_pictures::write_document;
 use scxsim_runs::{Listener, ScenarioPart, ScenarioRun, prepare_scenario_part};
-use scxsim_template::{CODE, TOP};
+use scxsim_template::{CODE, TOP, shortest_width};
 use std::alloc::Global;
 
 /// Writes the page of the run of a policy file and of a workload or a file of events, or of a part of it. The answer
-/// is true.
+/// is true. Of a whole run with more stretches than a page holds, short ones are drawn together.
 ///
 /// # Errors
 ///
-/// The texts or the words of the part are refused, or the page would hold too many stretches, or memory runs
+/// The texts or the words of the part are refused, or the page of the part would hold too many stretches, or memory runs
 /// out, and then nothing is written, or writing the page fails.
 #[tactic(auto, using(crate::proofs::Refusing::out_of_memory))]
 pub fn view<L: Listener, W: Out>(
@@ -44,11 +44,19 @@ pub fn view<L: Listener, W: Out>(
     ensures counted { result ≡ Err Fault.WriteFailed
         → HasFailed (W.failure_count out.old) (W.failure_count out.new) }
 {
-    let ScenarioPart { run, window } = part_of_texts(alloc, policy, scenario, span, listener)?;
-    let draft = Draft::new(alloc, paths, &run.scenario, window);
+    let Fitted { part, width } = part_of_texts(alloc, policy, scenario, span, listener)?;
+    let ScenarioPart { run, window } = part;
+    let draft = Draft::new(alloc, paths, &run.scenario, window, width);
     let pass = last_pass(run.scenario.workload(), window);
     let mut heard = PassListener { listener, pass };
     write_document(run, draft, TOP, CODE, &mut heard, out)
+}
+
+/// A part of a run, and up to what length its stretches are drawn together, if a page doesn't hold all of them.
+#[derive(Drop)]
+struct Fitted {
+    part: ScenarioPart,
+    width: Option<u64>,
 }
 
 /// The run of the two texts, and the part of it that words name. It fits a page.
@@ -59,24 +67,27 @@ fn part_of_texts<L: Listener>(
     scenario: &str,
     span: Option<Span<'_>>,
     listener: &mut L,
-) -> Result<ScenarioPart, Refusal>
+) -> Result<Fitted, Refusal>
     ensures { IfErr result (IsPageCause policy.now scenario.now span.entry) }
 {
     let part = prepare_scenario_part(alloc, policy, scenario, span)?;
-    fitting(alloc, part, listener)
+    fitting(alloc, part, span.is_some(), listener)
 }
 
-/// This part of a run, if its stretches fit a page.
+/// This part of a run, or the whole, if its stretches fit a page.
 fn fitting<L: Listener>(
     alloc: Global,
     part: ScenarioPart,
+    is_part: bool,
     listener: &mut L,
-) -> Result<ScenarioPart, Refusal>
-    ensures { IfErr result (λ refusal. (refusal ≡ NoMemory)
-        ⊎ IsPast part.window part.run.scenario part.run.sim refusal) }
+) -> Result<Fitted, Refusal>
+    ensures width { IfOk result (λ fitted.
+        IsWidth is_part part.window part.run.scenario part.run.sim fitted.width) }
+    ensures refused { IfErr result (λ refusal. (refusal ≡ NoMemory)
+        ⊎ IsPastPart is_part part.window part.run.scenario part.run.sim refusal) }
 {
-    match check_size(alloc, &part.run, part.window, listener) {
-        Ok(()) => Ok(part),
+    match fitting_width(alloc, &part.run, part.window, is_part, listener) {
+        Ok(width) => Ok(Fitted { part, width }),
         Err(refusal) => {
             drop(part);
             Err(refusal)
@@ -84,31 +95,40 @@ fn fitting<L: Listener>(
     }
 }
 
-/// Checks that the stretches of a part of this run fit a page. They are counted where they may not.
-fn check_size<L: Listener>(
+/// Up to what length the stretches of a part of this run are drawn together, if a page doesn't hold all of them. They
+/// are counted where it may not. Only those of a whole run are drawn together.
+fn fitting_width<L: Listener>(
     alloc: Global,
     run: &ScenarioRun,
     window: Window,
+    is_part: bool,
     listener: &mut L,
-) -> Result<(), Refusal>
-    ensures { IfErr result (λ refusal. (refusal ≡ NoMemory)
-        ⊎ IsPast window run.now.scenario run.now.sim refusal) }
+) -> Result<Option<u64>, Refusal>
+    ensures width { IfOk result
+        (IsWidth is_part window run.now.scenario run.now.sim) }
+    ensures refused { IfErr result (λ refusal. (refusal ≡ NoMemory)
+        ⊎ IsPastPart is_part window run.now.scenario run.now.sim refusal) }
 {
-    if surely_fits(run.scenario.workload(), window) {
-        return Ok(());
+    let tasks = run.scenario.workload().tasks().len() as u64;
+    let span = window_length(window);
+    if surely_fits(tasks, span) {
+        return Ok(None);
     }
     let pass = RunPass::First;
     let mut heard = PassListener { listener, pass };
     let count = count_stretches(alloc, run, window, &mut heard)?;
-    if count > MOST_STRETCHES {
+    if count <= MOST_STRETCHES {
+        return Ok(None);
+    }
+    if is_part {
         return Err(Refusal::TooManyStretches(count));
     }
-    Ok(())
+    Ok(Some(shortest_width(tasks, span, MOST_STRETCHES)))
 }
 
 /// The pass that writes the page.
 fn last_pass(workload: &Workload, window: Window) -> RunPass {
-    if surely_fits(workload, window) {
+    if surely_fits(workload.tasks().len() as u64, window_length(window)) {
         RunPass::Only
     } else {
         RunPass::Second
@@ -116,7 +136,14 @@ fn last_pass(workload: &Workload, window: Window) -> RunPass {
 }
 
 /// True if a page holds all stretches whatever the tasks do: a task has at most one for each millisecond.
-fn surely_fits(workload: &Workload, window: Window) -> bool {
-    let length = window.to.saturating_sub(window.from);
-    length.saturating_mul(workload.tasks().len() as u64) <= MOST_STRETCHES
+fn surely_fits(tasks: u64, span: u64) -> bool
+    ensures { result ≡ surely_fits tasks span }
+{
+    span.saturating_mul(tasks) <= MOST_STRETCHES
+}
+
+fn window_length(window: Window) -> u64
+    ensures { result ≡ window_length window }
+{
+    window.to.saturating_sub(window.from)
 }

@@ -1,9 +1,15 @@
+use arrayvec::ArrayString;
 use scxsim_commands::Ejection;
-use scxsim_pictures::Part;
 use std::fmt::Write;
 
 /// The number of ids that are written at once.
 const IDS: usize = 8;
+
+/// Room for the bytes of a part.
+const PART_CAPACITY: usize = 320;
+
+/// A part of the data at the end of a page. It takes no memory from the allocator.
+type Part = ArrayString<PART_CAPACITY>;
 
 /// The policy's ejection, if there is one, as JSON, with the text between the stretches and it. The code of an exit
 /// is a text, since a number of JavaScript holds 53 bits.

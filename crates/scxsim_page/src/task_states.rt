@@ -1,5 +1,5 @@
-use crate::queue_numbers::{LOCAL_NUMBER, NO_QUEUE, PARKED_NUMBER};
-use crate::stretches::{Beginning, End, NOWHERE, Stretch, moment_of};
+use crate::queue_numbers::{LOCAL_NUMBER, NO_QUEUE};
+use scxsim_template::{Beginning, End, NOWHERE, PARKED_NUMBER, Stretch, moment_of};
 use std::alloc::{AllocError, Global};
 
 /// The activity of a task.

@@ -24,7 +24,7 @@ button:hover { border-color: var(--ink); } button:disabled { opacity: .5; }\n\
 button[aria-pressed=true] { background: var(--ink); color: var(--paper); }\n\
 :focus-visible { outline: 2.5px solid var(--link); outline-offset: 1px; }\n\
 input { width: 170px; background: var(--paper); } input[aria-invalid=true] { border-color: var(--wrong); }\n\
-#found { min-width: 56px; }\n\
+#found { min-width: 56px; } #merged { flex: 1 0 100%; }\n\
 .legend { list-style: none; display: flex; flex-wrap: wrap; gap: 4px 16px; margin: 0; padding-bottom: 8px; font-size: 12px; max-height: 96px; overflow-y: auto; }\n\
 .legend:focus-visible { outline-offset: -3px; }\n\
 .legend li { display: flex; align-items: center; gap: 6px; flex: none; }\n\
@@ -68,7 +68,7 @@ input { width: 110px; } #found:empty { display: none; }\n#facts { display: none;
 <button id=\"wider\" type=\"button\" aria-label=\"Zoom out\">&minus;</button>\n\
 <button id=\"whole\" type=\"button\">Whole run</button>\n\
 <button id=\"worst\" type=\"button\">Next longest wait</button>\n\
-<button id=\"ejection\" type=\"button\" hidden>Ejection</button>\n</div>\n\
+<button id=\"ejection\" type=\"button\" hidden>Ejection</button>\n<p id=\"merged\" hidden></p>\n</div>\n\
 <ul class=\"legend\" id=\"legend\" aria-label=\"Legend\" tabindex=\"0\"></ul>\n\
 <div id=\"overview\" aria-hidden=\"true\"><canvas></canvas><div id=\"sight\"></div></div>\n<div id=\"scroller\">\n\
 <div id=\"spacer\"></div>\n\
@@ -88,7 +88,7 @@ input { width: 110px; } #found:empty { display: none; }\n#facts { display: none;
 
 /// The text of a page after its data.
 pub const CODE: &str = "<script>\n\"use strict\";\nconst MOST_CPUS = 16;  // more fold at first\n\
-const NOWHERE = 255, GLOBAL = 16, HELD = 17, BUILTIN = 18, PARKED = 19, LOCAL = 20, NO_QUEUE = 65535;\n\
+const NOWHERE = 255, SEVERAL = 254, GLOBAL = 16, HELD = 17, BUILTIN = 18, PARKED = 19, LOCAL = 20, NO_QUEUE = 65535;\n\
 const WHY_RUN = [\"the run was over\", \"it was stopped: its slice was used up and another came\", \"it went to sleep\",\n\
 \"its group had used its quota, and it was parked\", \"\", \"\", \"\", \"this part of the run was over\"];\n\
 const WHY_WAIT = [\"the run was over\", \"\", \"it went to sleep\", \"it was parked\", \"it ran\", \"it went to another queue\",\n\
@@ -106,10 +106,10 @@ function readRun() {\nconst head = JSON.parse(text(\"head\")), tail = JSON.parse
 const bytes = decode(text(\"stretches\").trim());\nelement(\"stretches\").remove();\n\
 const words = new Uint32Array(bytes.buffer, bytes.byteOffset, bytes.length >> 2), count = words.length >> 2;\n\
 const tasks = head.tasks.length, processors = head.processors;\n\
-const run = { ...head, ...tail, count, begin: head.from, duration: head.to - head.from,\n\
+const run = { ...head, ...tail, count, begin: head.from, duration: head.to - head.from, isMerged: head.together !== undefined,\n\
 taskStart: new Uint32Array(tasks + 1), cpuStart: new Uint32Array(processors + 1) };\n\
 for (let i = 0; i < count; i++) {\nconst word = words[4 * i + 2], cpu = word >>> 16 & 255;\n\
-run.taskStart[(word & 65535) + 1]++;\nif (cpu !== NOWHERE) run.cpuStart[cpu + 1]++;\n}\n\
+run.taskStart[(word & 65535) + 1]++;\nif (cpu !== NOWHERE && !run.isMerged) run.cpuStart[cpu + 1]++;\n}\n\
 for (let i = 0; i < tasks; i++) run.taskStart[i + 1] += run.taskStart[i];\n\
 for (let i = 0; i < processors; i++) run.cpuStart[i + 1] += run.cpuStart[i];\n\
 if (run.ended.at !== undefined) run.ended.at -= run.begin;\n\
@@ -118,21 +118,33 @@ placeStretches(run, words);\nsumStretches(run);\nreturn run;\n}\nfunction placeS
 const { count, taskStart, cpuStart } = run, runs = cpuStart[run.processors];\nObject.assign(run, {\n\
 from: new Uint32Array(count), length: new Uint32Array(count), queue: new Uint16Array(count),\n\
 cpu: new Uint8Array(count), why: new Uint8Array(count),\n\
-cpuFrom: new Uint32Array(runs), cpuLength: new Uint32Array(runs), cpuTask: new Uint16Array(runs),\n});\n\
+cpuFrom: new Uint32Array(runs), cpuLength: new Uint32Array(runs), cpuTask: new Uint16Array(runs),\n\
+pieceWaited: new Uint16Array(run.isMerged ? count : 0), pieceParked: new Uint16Array(run.isMerged ? count : 0),\n});\n\
 const nextTask = taskStart.slice(), nextCpu = cpuStart.slice();\nfor (let i = 0; i < count; i++) {\n\
 const word = words[4 * i + 2], task = word & 65535, cpu = word >>> 16 & 255, at = nextTask[task]++;\n\
 run.from[at] = words[4 * i] - run.begin;\nrun.length[at] = words[4 * i + 1];\nrun.cpu[at] = cpu;\n\
-run.why[at] = word >>> 24;\nrun.queue[at] = words[4 * i + 3];\nif (cpu !== NOWHERE) {\nconst place = nextCpu[cpu]++;\n\
-run.cpuFrom[place] = run.from[at];\nrun.cpuLength[place] = words[4 * i + 1];\nrun.cpuTask[place] = task;\n}\n}\n}\n\
-function sumStretches(run) {\nconst { count, from, length, cpu, queue } = run, wakes = [];\n\
+run.why[at] = word >>> 24;\nrun.queue[at] = words[4 * i + 3];\n\
+if (cpu === SEVERAL) placePiece(run, at, words[4 * i + 1], words[4 * i + 3]);\n\
+if (cpu !== NOWHERE && !run.isMerged) {\nconst place = nextCpu[cpu]++;\nrun.cpuFrom[place] = run.from[at];\n\
+run.cpuLength[place] = words[4 * i + 1];\nrun.cpuTask[place] = task;\n}\n}\n}\n\
+function placePiece(run, at, times, more) {\nrun.length[at] = times & 65535;\nrun.pieceParked[at] = times >>> 16;\n\
+run.pieceWaited[at] = more >>> 16;\n}\n\
+const ranIn = ({ cpu, queue, length }, i) => cpu[i] === SEVERAL ? queue[i] : cpu[i] === NOWHERE ? 0 : length[i];\n\
+const waitedIn = ({ cpu, queue, length, pieceWaited }, i) =>\n\
+cpu[i] === SEVERAL ? pieceWaited[i] : cpu[i] === NOWHERE && queue[i] !== PARKED ? length[i] : 0;\n\
+const parkedIn = ({ cpu, queue, length, pieceParked }, i) =>\n\
+cpu[i] === SEVERAL ? pieceParked[i] : cpu[i] === NOWHERE && queue[i] === PARKED ? length[i] : 0;\n\
+function sumStretches(run) {\nconst { count, from } = run, wakes = [];\n\
 for (const before of [\"ranBefore\", \"waitedBefore\", \"parkedBefore\", \"wakesBefore\"]) run[before] = new Uint32Array(count + 1);\n\
-for (let i = 0; i < count; i++) {\nconst ran = cpu[i] !== NOWHERE, parked = !ran && queue[i] === PARKED;\n\
-run.ranBefore[i + 1] = run.ranBefore[i] + (ran ? length[i] : 0);\n\
-run.parkedBefore[i + 1] = run.parkedBefore[i] + (parked ? length[i] : 0);\n\
-run.waitedBefore[i + 1] = run.waitedBefore[i] + (ran || parked ? 0 : length[i]);\n\
-if (isWake(run, i)) wakes.push(from[i]);\nrun.wakesBefore[i + 1] = wakes.length;\n}\n\
-run.wakeTimes = Uint32Array.from(wakes);\nsumRuns(run);\nsumGroups(run);\nsumQueues(run);\nlistWaits(run);\n\
-findWaits(run);\n}\nfunction sumRuns(run) {\n\
+for (let i = 0; i < count; i++) {\nrun.ranBefore[i + 1] = run.ranBefore[i] + ranIn(run, i);\n\
+run.parkedBefore[i + 1] = run.parkedBefore[i] + parkedIn(run, i);\n\
+run.waitedBefore[i + 1] = run.waitedBefore[i] + waitedIn(run, i);\n\
+if (isWake(run, i) && !run.isMerged) wakes.push(from[i]);\nrun.wakesBefore[i + 1] = wakes.length;\n}\n\
+run.wakeTimes = Uint32Array.from(wakes);\nif (run.isMerged) sumPieces(run);\nsumRuns(run);\nsumGroups(run);\n\
+sumQueues(run);\nlistWaits(run);\nfindWaits(run);\n}\nfunction sumPieces(run) {\n\
+run.mergedBefore = new Uint32Array(run.count + 1);\n\
+for (let i = 0; i < run.count; i++) run.mergedBefore[i + 1] = run.mergedBefore[i] + (run.cpu[i] === SEVERAL ? run.pieceWaited[i] : 0);\n\
+}\nfunction sumRuns(run) {\nif (run.isMerged) return sumNoRuns(run);\n\
 const { cpuFrom, cpuLength, cpuStart, processors, duration } = run, runs = cpuFrom.length;\n\
 Object.assign(run, countWaits(run, () => true));\nrun.waitsOn = waitsOnCpus(run);\n\
 for (const before of [\"cpuBefore\", \"cpuWaitedBefore\"]) run[before] = new Uint32Array(runs + 1);\n\
@@ -143,7 +155,11 @@ const from = cpuFrom[i], until = from + cpuLength[i];\ncpuBefore[i + 1] = cpuBef
 cpuWaitedBefore[i + 1] = cpuWaitedBefore[i] + someWaited[until] - someWaited[from];\n\
 run.idleByQuota -= onlyParked[until] - onlyParked[from];\n}\n}\n\
 run.idle = Array.from({ length: processors }, (_, cpu) => figuresOfCpu(run, cpu, 0, duration).waits);\n\
-run.lost = lostTimes(run);\n}\nfunction lostTimes(run) {\n\
+run.lost = lostTimes(run);\n}\nfunction sumNoRuns(run) {\n\
+const [someWaited, onlyParked] = [0, 1].map(() => new Uint32Array(run.duration + 2));\n\
+Object.assign(run, { waitsOn: [], idle: [], idleByQuota: 0, lost: { duration: run.duration, someWaited, onlyParked } });\n\
+for (const before of [\"cpuBefore\", \"cpuWaitedBefore\"]) run[before] = new Uint32Array(1);\n}\n\
+function lostTimes(run) {\n\
 const { duration, waitsOn } = run, [someWaited, onlyParked] = [0, 1].map(() => new Uint32Array(duration + 2));\n\
 for (const waits of new Set(waitsOn)) {\nconst idle = countIdle(run, (cpu) => waitsOn[cpu] === waits);\n\
 for (let ms = 0, waited = 0, parked = 0; ms < duration; ms++) {\n\
@@ -189,13 +205,18 @@ for (const { group } of tasks) for (let g = group; g >= 0; g = groups[g].parent)
 groups.filter((group) => group.tasks.length).forEach((group, leaf) => { group.leaf = leaf; });\n\
 for (const group of groups) {\nlet leaf = group;\nwhile (leaf.children.length) leaf = groups[leaf.children[0]];\n\
 group.first = leaf.tasks[0] ?? 0;\n}\n}\nfunction sumLeaf(run, group, { cell, row }, slices) {\n\
-const kinds = slices.map(() => ({ offsets: new Int32Array(row + 1), counts: new Int32Array(row + 1) }));\n\
+const Numbers = run.isMerged ? Float64Array : Int32Array;\n\
+const kinds = slices.map(() => ({ offsets: new Numbers(row + 1), counts: new Numbers(row + 1) }));\n\
 for (const task of group.tasks) {\nfor (let i = run.taskStart[task]; i < run.taskStart[task + 1]; i++) {\n\
 const kind = run.cpu[i] !== NOWHERE ? 0 : run.queue[i] === PARKED ? 2 : 1;\n\
-addInterval(kinds[kind], cell, run.from[i], run.from[i] + run.length[i]);\n}\n}\nslices.forEach((slice, kind) => {\n\
-const { offsets, counts } = kinds[kind];\n\
-for (let k = 0, sum = 0, count = 0; k < row; count += counts[k], k++) slice[k] = sum += cell * count + offsets[k];\n\
-});\n}\nfunction sumDue({ groups, changes, begin }, sums) {\n\
+if (run.cpu[i] === SEVERAL) addPiece(run, kinds, cell, i);\n\
+else addInterval(kinds[kind], cell, run.from[i], run.from[i] + run.length[i]);\n}\n}\n\
+slices.forEach((slice, kind) => {\nconst { offsets, counts } = kinds[kind];\n\
+for (let k = 0, sum = 0, count = 0; k < row; count += counts[k], k++) slice[k] = Math.round(sum += cell * count + offsets[k]);\n\
+});\n}\nfunction addPiece(run, kinds, cell, i) {\n\
+const from = run.from[i], length = run.length[i] || 1, times = [ranIn(run, i), waitedIn(run, i), parkedIn(run, i)];\n\
+times.forEach((time, kind) => { if (time > 0) addInterval(kinds[kind], cell, from, from + length, time / length); });\n\
+}\nfunction sumDue({ groups, changes, begin }, sums) {\n\
 const { cell, cells, row, ran, waited, parked, due, busy } = sums, left = changes.slice();\n\
 const weights = groups.map((group) => group.weight), room = groups.map(() => Infinity);\n\
 const limited = [...groups.keys()].filter((g) => groups[g].quota !== undefined);\n\
@@ -234,10 +255,11 @@ sums: new Uint32Array(row), offsets: new Int32Array(row + 1), counts: new Int32A
 for (const track of run.tracks) used.set(track.queue, track);\nfor (let i = 0; i < count; i++) {\n\
 if (length[i] > 0 && cpu[i] === NOWHERE && queue[i] !== PARKED) addInterval(used.get(Math.min(queue[i], LOCAL)), cell, from[i], from[i] + length[i]);\n\
 }\nfor (const track of run.tracks) sumTrack(track, row);\n}\n\
-function addInterval({ offsets, counts }, cell, from, until) {\n\
+function addInterval({ offsets, counts }, cell, from, until, part = 1) {\n\
 const first = Math.ceil(from / cell), last = Math.ceil(until / cell);\n\
-offsets[first] += first * cell - from; counts[first]++;\noffsets[last] -= last * cell - until; counts[last]--;\n}\n\
-function sumTrack(track, row) {\nconst { cell, sums, offsets, counts } = track;\n\
+offsets[first] += part * (first * cell - from); counts[first] += part;\n\
+offsets[last] -= part * (last * cell - until); counts[last] -= part;\n}\nfunction sumTrack(track, row) {\n\
+const { cell, sums, offsets, counts } = track;\n\
 for (let k = 0, sum = 0, count = 0; k < row; count += counts[k], k++) sums[k] = sum += cell * count + offsets[k];\n\
 track.most = 0;\nfor (let k = 1; k < row; k++) track.most = Math.max(track.most, (sums[k] - sums[k - 1]) / cell);\n\
 delete track.offsets;\ndelete track.counts;\n}\n\
@@ -253,7 +275,7 @@ if (isStopped(run, i) && hasNoWait(run, i, end)) act(i, -1);\ncontinue;\n}\nif (
 if (i + 1 < end && isWait(run, i + 1) && goesOn(run, i)) continue;\nact(first, i);\nfirst = -1;\n}\n}\n\
 const isStopped = ({ cpu, why }, i) => cpu[i] !== NOWHERE && (why[i] & 7) === 1;\nfunction hasNoWait(run, i, end) {\n\
 const until = run.from[i] + run.length[i], next = i + 1 < end && run.from[i + 1] === until;\n\
-if (next && run.cpu[i + 1] === NOWHERE) return false;\n\
+if (next && run.cpu[i + 1] >= SEVERAL) return false;\n\
 return next ? clockUntil(run, i) < clockFrom(run, i + 1) : until === run.duration && clockUntil(run, i) < until;\n}\n\
 function listWaits(run) {\n\
 const most = run.from.length, [from, length, clock] = [0, 1, 2].map(() => new Uint32Array(most));\n\
@@ -263,12 +285,16 @@ eachWait(run, task, (first, last) => {\nconst hasStretch = last >= 0, end = run.
 from[count] = hasStretch ? run.from[first] : end;\n\
 length[count] = hasStretch ? run.from[last] + run.length[last] - run.from[first] : 0;\n\
 clock[count] = hasStretch ? clockFrom(run, first) : end - 1;\n\
-isCut[count] = hasStretch ? isCutWait(run, first, last) : end === run.duration && run.begin + end < run.ms;\n\
+isCut[count] = hasStretch ? isCutWait(run, task, first, last) : end === run.duration && run.begin + end < run.ms;\n\
 const later = hasStretch ? (run.why[first] >> 6 & 1) - (run.why[last] >> 7) : 1;\nless[count] = later < 0 ? 1 : 0;\n\
 more[count++] = later > 0 && !(hasStretch && isLate(run, last)) ? 1 : 0;\n});\nrun.waitStart[task + 1] = count;\n});\n\
 run.waits = Object.fromEntries(Object.entries(waits).map(([key, values]) => [key, values.slice(0, count)]));\n}\n\
 const isLate = ({ why }, i) => (why[i] & 7) === 7;\n\
-const isCutWait = (run, first, last) => isLate(run, last) || run.begin > 0 && run.from[first] === 0 && (run.why[first] & 48) === 0;\n\
+const isCutWait = (run, task, first, last) => isLate(run, last) || goesOnInPiece(run, task, first, last) ||\n\
+run.begin > 0 && run.from[first] === 0 && (run.why[first] & 48) === 0;\n\
+function goesOnInPiece({ cpu, why, taskStart }, task, first, last) {\n\
+const wentOn = (why[last] & 7) === 5 && last + 1 < taskStart[task + 1] && cpu[last + 1] === SEVERAL;\n\
+return wentOn || (why[first] & 48) === 0 && first > taskStart[task] && cpu[first - 1] === SEVERAL;\n}\n\
 function waitIn({ waits, begin }, k, from, until) {\n\
 const end = waits.from[k] + waits.length[k], bar = Math.min(until, end) - Math.max(from, waits.from[k]);\n\
 if (bar < 0 || end > until) return Math.max(0, bar);\n\
@@ -279,7 +305,7 @@ let total = 0, number = 0;\nconst { waits, waitStart } = run, keep = (task, k) =
 const from = waits.from[k], until = from + waits.length[k], clock = waits.clock[k], length = waitIn(run, k, 0, duration);\n\
 total += length; number++;\nrun.waited[task] += length;\nrun.longest[task] = Math.max(run.longest[task], length);\n\
 const isStall = task === ended.task && from < ended.at && until >= ended.at;\n\
-const isAmong = length > 0 && (worst.length < 20 || length > worst[19].length);\n\
+const isAmong = length > (run.together ?? 0) && (worst.length < 20 || length > worst[19].length);\n\
 if (!isStall && !isAmong && length * 20 < duration) return;\n\
 const wait = { task, from, until, clock, length, isStall, isCut: waits.isCut[k] > 0 };\n\
 if (isStall || length * 20 >= duration) long.push(wait);\n\
@@ -312,13 +338,15 @@ const { cpuFrom, cpuLength, cpuStart } = run, last = cpuStart[cpu + 1];\n\
 for (let i = firstAfter(cpuFrom, cpuLength, cpuStart[cpu], last, from); i < last && cpuFrom[i] < until; i++)\n\
 act(run.cpuTask[i], Math.min(until, cpuFrom[i] + cpuLength[i]) - Math.max(from, cpuFrom[i]));\n}\n\
 function whoRan(run, from, until) {\nconst sums = new Map();\n\
-for (let cpu = 0; cpu < run.processors; cpu++) eachRun(run, cpu, from, until, (task, ran) => sums.set(task, (sums.get(task) ?? 0) + ran));\n\
+if (run.isMerged) run.tasks.forEach((_, task) => addRan(sums, task, timeOf(run, run.ranBefore, task, from, until)));\n\
+for (let cpu = 0; cpu < run.processors; cpu++) eachRun(run, cpu, from, until, (task, ran) => addRan(sums, task, ran));\n\
 return [...sums].map(([task, ran]) => ({ task, ran })).sort((one, other) => other.ran - one.ran);\n}\n\
+const addRan = (sums, task, ran) => { if (ran > 0) sums.set(task, (sums.get(task) ?? 0) + ran); };\n\
 function figuresOf(run, from, until) {\nconst { groups, sums } = run, ranOfGroup = new Float64Array(groups.length);\n\
 const cpus = run.idle.map((_, cpu) => figuresOfCpu(run, cpu, from, until));\n\
 const tasks = run.tasks.map(({ group }, task) => {\nconst figures = figuresOfTask(run, task, from, until);\n\
 for (let g = group; g >= 0; g = groups[g].parent) ranOfGroup[g] += figures.ran;\nreturn figures;\n});\n\
-const busy = cpus.reduce((sum, cpu) => sum + cpu.busy, 0) || 1;\n\
+const busy = tasks.reduce((sum, { ran }) => sum + ran, 0) || 1;\n\
 const ofGroups = groups.map((_, g) => ({ share: ranOfGroup[g] / busy, due: within(sums, sums.due, g * sums.row, from, until) / busy,\n\
 isCapped: within(sums, sums.parked, g * sums.row, from, until) > 0 }));\nreturn { tasks, groups: ofGroups, cpus };\n\
 }\nfunction figuresOfCpu(run, cpu, from, until) {\n\
@@ -331,14 +359,17 @@ const last = cpuStart[cpu + 1], i = firstAfter(cpuFrom, cpuLength, cpuStart[cpu]
 const begun = i < last && cpuFrom[i] < time ? cpuFrom[i] : time;\n\
 return [cpuBefore[i] + time - begun, cpuWaitedBefore[i] + someWaited[time] - someWaited[begun]];\n}\n\
 function figuresOfTask(run, task, from, until) {\n\
-const { waits, waitStart } = run, figures = { ran: ranUntil(run, task, until) - ranUntil(run, task, from), waited: 0, longest: 0 };\n\
+const { waits, waitStart } = run, waited = run.isMerged ? timeOf(run, run.mergedBefore, task, from, until) : 0;\n\
+const figures = { ran: timeOf(run, run.ranBefore, task, from, until), waited, longest: 0 };\n\
 const end = waitStart[task + 1];\n\
 for (let k = firstAfter(waits.from, waits.length, waitStart[task], end, from); k < end && waits.from[k] <= until; k++) {\n\
 const length = waitIn(run, k, from, until);\nfigures.waited += length;\n\
 figures.longest = Math.max(figures.longest, length);\n}\nreturn figures;\n}\n\
-function ranUntil({ from, length, cpu, taskStart, ranBefore }, task, time) {\n\
+const timeOf = (run, before, task, from, until) => Math.round(timeUntil(run, before, task, until) - timeUntil(run, before, task, from));\n\
+function timeUntil({ from, length, taskStart }, before, task, time) {\n\
 const last = taskStart[task + 1], i = firstAfter(from, length, taskStart[task], last, time);\n\
-return ranBefore[i] + (i < last && cpu[i] !== NOWHERE ? Math.max(0, time - from[i]) : 0);\n}\n\
+return before[i] + (i < last ? partOf(length, before, i, Math.max(0, time - from[i])) : 0);\n}\n\
+const partOf = (length, before, i, time) => (before[i + 1] - before[i]) * time / (length[i] || 1);\n\
 const LIGHT = { paper: \"#ffffff\", ink: \"#1b1f24\", faint: \"#6a7178\", line: \"#d9dde1\", band: \"#f3f5f7\", link: \"#005a8c\", wrong: \"#d55e00\", wrongInk: \"#b84a00\", wrongPaper: \"#ffffff\",\n\
 wait: \"#7d858d\", waitPaper: \"#ccd2d8\", parked: \"#8a6d00\", parkedPaper: \"#f6e9b2\", several: \"#4d5a68\",\n\
 tasks: [\"#0072b2\", \"#e69f00\", \"#009e73\", \"#56b4e9\", \"#cc79a7\", \"#f0e442\"], inks: \"wbbbbb\" };\n\
@@ -394,7 +425,7 @@ const left = () => view.wide ? 156 : 96;\nconst plotLeft = () => Math.round(left
 const plotWidth = () => pixelsWide - plotLeft();\nconst perPixel = () => (view.until - view.from) / plotWidth();\n\
 const toPixel = (time) => (time - view.from) / (view.until - view.from) * plotWidth();\n\
 const letters = (number) => (number >= 26 ? letters(Math.floor(number / 26) - 1) : \"\") + String.fromCharCode(65 + number % 26);\n\
-const kindOf = (i) => run.cpu[i] !== NOWHERE ? 0 : run.queue[i] === PARKED ? 2 : 1;\n\
+const kindOf = (i) => run.cpu[i] === SEVERAL ? 3 : run.cpu[i] !== NOWHERE ? 0 : run.queue[i] === PARKED ? 2 : 1;\n\
 const isByTask = () => run.tasks.length <= 6 || run.groups.filter((group) => group.tasks.length).length === 1;\n\
 const isFaint = (task) => view.chosen !== null && view.chosen.task !== task;\n\
 const colourOf = (task) => (run.isByTask ? task : run.groups[run.tasks[task].group].leaf) % 6;\n\
@@ -471,8 +502,9 @@ while (x < width && i < last) {\n\
 const start = (from[i] - view.from) / step, end = (from[i] + length[i] - view.from) / step;\n\
 if (start >= x + 1) { x = Math.min(width, Math.floor(start)); continue; }\nif (end - start >= 2) {\n\
 const x0 = offset + Math.max(x, Math.round(start)), x1 = offset + Math.min(width, Math.max(x + 1, Math.round(end)));\n\
-if (cpu[i] !== NOWHERE) drawBar(x0, x1, y, runTall, task);\nelse drawWait(x0, x1, queue[i]);\nx = x1 - offset; i++;\n\
-} else {\n\
+if (cpu[i] === SEVERAL) drawPiece(x0, x1, shades, i);\n\
+else if (cpu[i] !== NOWHERE) drawBar(x0, x1, y, runTall, task);\nelse drawWait(x0, x1, queue[i]);\n\
+x = x1 - offset; i++;\n} else {\n\
 const time = Math.min(run.duration, view.from + (x + 1) * step), next = nextAfter(from, length, i, last, time);\n\
 const begin = Math.max(0, view.from + x * step - from[i]), rest = next < last ? Math.max(0, time - from[next]) : 0;\n\
 taskCell(offset + x, shades, { i, next, last, begin, rest, step });\nx++; i = next;\n}\n}\nputBands(y, tall);\n\
@@ -480,11 +512,13 @@ drawWakes(run.wakesBefore[first], run.wakesBefore[i], y + tall);\n}\nfunction dr
 if ((last - first) * 12 * ratio > plotWidth()) return;\n\
 for (let k = first; k < last; k++) if (run.wakeTimes[k] >= view.from) drawWake(plotLeft() + Math.round(toPixel(run.wakeTimes[k])), y);\n\
 }\nfunction taskCell(x, shades, { i, next, last, begin, rest, step }) {\n\
-const kind = kindOf(i), then = next < last ? kindOf(next) : 3;\n\
-const part = (before, number) => (before[next] - before[i] - (kind === number ? begin : 0) + (then === number ? rest : 0)) / step;\n\
-shade(high, x, shades, part(run.ranBefore, 0));\nshade(low, x, palette.waitShades, part(run.waitedBefore, 1));\n\
-shade(low, x, palette.parkedShades, part(run.parkedBefore, 2));\n}\nfunction drawWait(x0, x1, queue) {\n\
-const parked = queue === PARKED;\nlow.hasTiles = true;\n\
+const { length } = run, then = (before) => next < last ? partOf(length, before, next, rest) : 0;\n\
+const part = (before) => (before[next] - before[i] - partOf(length, before, i, begin) + then(before)) / step;\n\
+shadeTimes(x, shades, part);\n}\nfunction shadeTimes(x, shades, part) {\n\
+shade(high, x, shades, part(run.ranBefore));\nshade(low, x, palette.waitShades, part(run.waitedBefore));\n\
+shade(low, x, palette.parkedShades, part(run.parkedBefore));\n}\nfunction drawPiece(x0, x1, shades, i) {\n\
+for (let x = x0; x < x1; x++) shadeTimes(x, shades, (before) => partOf(run.length, before, i, 1));\n}\n\
+function drawWait(x0, x1, queue) {\nconst parked = queue === PARKED;\nlow.hasTiles = true;\n\
 low.paper.fill(parked ? palette.parkedPaper : palette.waitPaper, x0, x1);\nlow.tile.fill(tileOf(queue), x0, x1);\n\
 low.ink.fill(parked ? palette.parked : palette.wait, x0, x1);\n}\nfunction drawWake(x, y) {\n\
 const size = Math.round(6 * ratio);\n\
@@ -576,8 +610,8 @@ for (const task of run.groups[g].tasks) add({ kind: \"task\", number: task, dept
 };\nconst addSection = (key, name, high) => {\nconst folded = view.folded.has(key);\n\
 add({ kind: \"section\", key, name, folded, high: folded ? high : 24 });\nreturn !folded;\n};\n\
 if (addSection(\"cpus\", run.processors === 1 ? \"CPU\" : run.processors + \" CPUs\", run.processors > MOST_CPU_ROWS ? 104 : 56))\n\
-for (let cpu = 0; cpu < run.processors; cpu++) add({ kind: \"cpu\", number: cpu, high: thin ? 9 : 28 });\n\
-if (run.tracks.length > 0 && addSection(\"queues\", \"Queues\", 24))\n\
+for (let cpu = 0; cpu < run.idle.length; cpu++) add({ kind: \"cpu\", number: cpu, high: thin ? 9 : 28 });\n\
+if (run.tracks.length > 0 && !run.isMerged && addSection(\"queues\", \"Queues\", 24))\n\
 run.tracks.forEach((_, number) => add({ kind: \"track\", number, high: 30 }));\n\
 add({ kind: \"section\", name: view.wide ? \"Groups and tasks\" : \"Tasks\", high: 24 });\n\
 run.groups.forEach((group, g) => { if (group.parent < 0) addGroup(g, 0); });\nplaceRows(rows);\n}\n\
@@ -629,7 +663,7 @@ const NAMES = {\nsection(row, y) {\n\
 const { ink, faint, wrongInk } = palette.names, all = run.duration * run.processors;\n\
 write((row.key ? foldMark(row) : \"\") + row.name, 6, y + 13, ink, 12, 600, left() - 10);\n\
 if (!row.folded || row.key !== \"cpus\") return;\nconst idle = run.idle.reduce((sum, one) => sum + one, 0) / all;\n\
-write(\"busy \" + percent(run.cpuBefore[run.cpuFrom.length] / all), 18, y + 29, faint, 11, 400, left() - 22);\n\
+write(\"busy \" + percent(run.ranBefore[run.count] / all), 18, y + 29, faint, 11, 400, left() - 22);\n\
 if (idle > 0) write(\"idle, a task waits \" + percent(idle), 18, y + 44, wrongInk, 11, 400, left() - 22);\n},\n\
 cpu({ number, high }, y) {\n\
 const { ink, wrongInk } = palette.names, idle = run.idle[number], told = high >= 28 && idle > 0, isThin = high < 12;\n\
@@ -763,7 +797,8 @@ const above = kind === \"task\" ? run.tasks[number].group : kind === \"group\" ?
 for (let g = above; g >= 0; g = run.groups[g].parent) view.folded.delete(g);\nmakeRows();\n\
 view.row = rowOf(kind, number);\nscrollTo(view.rows[view.row]);\nconst room = Math.max(8, (until - from) * 0.6);\n\
 if (from !== undefined) show(from - room, until + room);\nredraw();\n}\nfunction fold(row) {\n\
-const key = row.kind === \"group\" ? row.number : row.key;\nif (key === undefined) return;\n\
+const key = row.kind === \"group\" ? row.number : row.key;\n\
+if (key === undefined || key === \"cpus\" && run.isMerged) return;\n\
 if (!view.folded.delete(key)) view.folded.add(key);\nmakeRows();\ntell(rowTitle(view.rows[view.row]));\nredraw();\n}\n\
 const tell = (words) => { element(\"live\").textContent = words; };\nlet settling = 0;\nfunction settleLater() {\n\
 clearTimeout(settling);\nsettling = setTimeout(settle, 150);\n}\nfunction settle() {\nclearTimeout(settling);\n\
@@ -810,6 +845,7 @@ const last = run.taskStart[task + 1], i = firstAfter(run.from, run.length, run.t
 if (i >= last || run.from[i] > time) return null;\n\
 return { index: i, task, kind: row.kind, number: row.number, from: run.from[i], until: run.from[i] + run.length[i] };\n\
 }\nfunction describe({ index, task, from, until }) {\n\
+if (run.cpu[index] === SEVERAL) return describePiece(index, task, from, until);\n\
 const ran = run.cpu[index] !== NOWHERE, queue = run.queue[index], why = run.why[index], began = BEGAN[why >> 4 & 3];\n\
 const what = ran ? \"ran on CPU \" + run.cpu[index] : queue === PARKED ? \"was parked\" : \"waited\";\n\
 const [begin, end] = ran ? [from, until] : [clockFrom(run, index), clockUntil(run, index)];\n\
@@ -817,6 +853,10 @@ const when = \"from \" + momentText(begin) + \" to \" + momentText(end) + \", \"
 const where = queue === NO_QUEUE ? \"\" : (ran ? \"it came from \" : \"in \") + queueName(run, queue);\n\
 const lines = [run.tasks[task].name + \" \" + what, when + (began && \"; \" + began), \"then \" + (ran ? WHY_RUN : WHY_WAIT)[why & 7], where];\n\
 return [...lines.filter(Boolean), ...boundWords(run.tasks[task])];\n}\n\
+function describePiece(index, task, from, until) {\n\
+const parked = parkedIn(run, index), words = \"ran \" + timeText(ranIn(run, index)) + \", waited \" + timeText(waitedIn(run, index));\n\
+return [run.tasks[task].name + \", several stretches\", \"from \" + momentText(from) + \" to \" + momentText(until),\n\
+words + (parked > 0 ? \", was parked \" + timeText(parked) : \"\"), ...boundWords(run.tasks[task])];\n}\n\
 const boundWords = (task) => task.cpus ? [\"may run on \" + cpusText(task.cpus)] : [];\nfunction cpusText(cpus) {\n\
 if (cpus.length === 1) return \"CPU \" + cpus[0] + \" alone\";\nconst ranges = [];\nfor (const cpu of cpus) {\n\
 if (ranges.at(-1)?.[1] === cpu - 1) ranges.at(-1)[1] = cpu;\nelse ranges.push([cpu, cpu]);\n}\n\
@@ -827,7 +867,7 @@ if (row.kind !== \"task\" || start === end) return null;\n\
 return taskStretch(row.number, Math.max(time, run.from[Math.min(end - 1, firstAfter(run.from, run.length, start, end, time))]), row);\n\
 }\nfunction describePlace(row, time) {\nconst at = Math.floor(time);\n\
 if (row.kind === \"cpu\") return [\"CPU \" + row.number + \" idle\", ...waitingWords(at, row)];\n\
-if (row.kind === \"section\" && row.folded && row.key === \"cpus\") return describeAllCpus(at);\n\
+if (row.kind === \"section\" && row.folded && row.key === \"cpus\") return run.isMerged ? null : describeAllCpus(at);\n\
 if (row.kind === \"track\") {\n\
 const track = run.tracks[row.number], length = lengthOfTrack(track, at, Math.min(run.duration, at + 1));\n\
 return [track.name, (track.cell > 1 ? length.toFixed(1) + \" tasks on average\" : tasksText(length)) + \" at \" + momentText(at)];\n\
@@ -942,14 +982,16 @@ fillTable(element(\"groups\"), [\"group\", \"share\", \"due\"], groups.map(({ sh
 [run.groups[g].name + (isCapped ? \" (quota used up)\" : \"\"), percent(share), percent(due)]));\n\
 fillTable(element(\"cpus\"), [\"CPU\", \"busy ms\", \"idle ms\", \"of it a task waited\"], cpus.map(({ busy, idle, waits }, cpu) =>\n\
 [String(cpu), busy, idle, waits]));\n\
-fillTable(element(\"tasks\"), [\"task\", \"ran ms\", \"waited ms\", \"longest\"], tasks.map(({ ran, waited, longest }, task) =>\n\
-[run.tasks[task].name, ran, waited, longest]), (name) => findTask(name));\n}\nfunction fillWaits() {\n\
-for (const wait of run.worst.slice(0, 5)) {\n\
+const columns = run.isMerged ? 3 : 4, heads = [\"task\", \"ran ms\", \"waited ms\", \"longest\"].slice(0, columns);\n\
+fillTable(element(\"tasks\"), heads, tasks.map(({ ran, waited, longest }, task) =>\n\
+[run.tasks[task].name, ran, waited, longest].slice(0, columns)), (name) => findTask(name));\n}\n\
+function fillWaits() {\nfor (const wait of run.worst.slice(0, 5)) {\n\
 const words = lengthOfWait(wait) + \" \" + run.tasks[wait.task].name + \", from \" + momentText(wait.clock);\n\
 const button = node(\"button\", words, node(\"li\", \"\", element(\"waits\")), { type: \"button\", class: wait.alarming ? \"wrong\" : \"\" });\n\
 button.onclick = () => jump(wait);\n}\n\
-if (run.worst.length === 0) node(\"p\", \"No task waited.\", element(\"waits\").parentNode, { class: \"faint\" });\n\
-}\nfunction setRange(range) {\nview.range = range;\nif (range) tellRange();\n\
+const none = run.isMerged ? \"No stretch of waiting is longer than \" + timeText(run.together) + \".\" : \"No task waited.\";\n\
+if (run.worst.length === 0) node(\"p\", none, element(\"waits\").parentNode, { class: \"faint\" });\n}\n\
+function setRange(range) {\nview.range = range;\nif (range) tellRange();\n\
 else if (view.chosen) tellMeanwhile(view.chosen, describe(view.chosen));\nelse tellNothing();\nsettleLater();\n\
 redraw();\n}\nfunction jump(wait) {\ngoTo(\"task\", wait.task, wait.from, wait.until);\n\
 choose(taskStretch(wait.task, wait.from, { kind: \"task\", number: wait.task }));\n}\n\
@@ -1067,7 +1109,8 @@ const WAIT_WORDS = { [HELD]: \"held by the policy\", [GLOBAL]: \"waits in the gl
 function legendItems() {\nconst { names } = palette, items = [], all = run.tracks.map(({ queue }) => queue);\n\
 const add = (words, tile, kind) => items.push([words, (brush) => paintTile(brush, TILES[tile], names[kind], names[kind + \"Paper\"])]);\n\
 items.push([run.isByTask ? \"runs (letter and colour: its task)\" : \"runs (letter: its task; colour: its group)\",\n\
-(brush) => paintBoxes(brush, [0, 1].flatMap(barBoxes))]);\nif (run.processors > MOST_CPUS) addArea(items);\n\
+(brush) => paintBoxes(brush, [0, 1].flatMap(barBoxes))]);\n\
+if (run.processors > MOST_CPUS || run.isMerged) addArea(items);\n\
 for (const queue of all) if (queue < LOCAL) add(WAIT_WORDS[queue] ?? \"waits in \" + queueName(run, queue), tileOf(queue), \"wait\");\n\
 if (all.some(isLocal)) add(\"waits in a CPU's own queue\", tileOf(LOCAL), \"wait\");\n\
 if (run.parkedBefore[run.count] > 0) add(\"parked: quota used up\", tileOf(PARKED), \"parked\");\n\
@@ -1082,8 +1125,10 @@ canvas.style.background = `linear-gradient(90deg, transparent, ${names.several})
 function addArea(items) {\n\
 const isOne = run.groups.filter((group) => group.tasks.length).length === 1, { names } = palette;\n\
 const boxes = isOne ? [[names.several, 0, 5, 30, 9]] : [[names.tasks[0], 0, 9, 30, 5], [names.tasks[1], 0, 5, 30, 4]];\n\
-items.push([\"all CPUs as an area: those that ran\" + (isOne ? \"\" : \", by group\") + \"; hatched: idle while a task waits; the rest: idle\",\n\
-(brush) => { paintBoxes(brush, boxes); paintTile(brush, TILES[WRONG_TILE], names.wrong, names.paper, 2, 5); }]);\n}\n\
+const rest = run.isMerged ? \"; the rest: idle\" : \"; hatched: idle while a task waits; the rest: idle\";\n\
+items.push([\"all CPUs as an area: those that ran\" + (isOne ? \"\" : \", by group\") + rest, (brush) => {\n\
+paintBoxes(brush, boxes);\nif (!run.isMerged) paintTile(brush, TILES[WRONG_TILE], names.wrong, names.paper, 2, 5);\n\
+}]);\n}\n\
 const barBoxes = (k) => [[hexOf(palette.edges[k]), 16 * k, 0, 14, 14], [palette.names.tasks[k], 16 * k + 1, 1, 12, 12]];\n\
 function addShares(items) {\nconst { names } = palette, lack = (kind) => (brush) => {\n\
 paintBoxes(brush, [[names.tasks[3], 0, 8, 30, 6], [names.ink, 0, 3, 30, 1]]);\n\
@@ -1108,15 +1153,20 @@ element(\"ended\").textContent = endedWords();\n\
 element(\"ended\").className = run.ended.at === undefined ? \"fine\" : \"wrong\";\n\
 const count = (number, one, many = one + \"s\") => number.toLocaleString(\"en\") + \" \" + (number === 1 ? one : many);\n\
 element(\"facts\").textContent = [count(run.processors, \"CPU\"), count(run.tasks.length, \"task\"), lengthWords(),\n\
-count(run.count, \"stretch\", \"stretches\")].join(\" \u{b7} \");\n\
-element(\"ejection\").hidden = !isEjectionShown();\nelement(\"facts\").title = element(\"facts\").textContent;\n\
-element(\"worst\").disabled = run.worst.length === 0;\nelement(\"nothing\").hidden = run.cpuFrom.length > 0;\n\
+...(run.isMerged ? [] : [count(run.count, \"stretch\", \"stretches\")])].join(\" \u{b7} \");\n\
+if (run.isMerged) tellMerged();\nelement(\"ejection\").hidden = !isEjectionShown();\n\
+element(\"facts\").title = element(\"facts\").textContent;\nelement(\"worst\").disabled = run.worst.length === 0;\n\
+element(\"nothing\").hidden = run.ranBefore[run.count] > 0;\n\
 const where = run.begin > 0 || run.duration < run.ms ? \"in this part\" : \"in this run\";\n\
 element(\"nothing\").textContent = run.count > 0 ? \"No task ran \" + where + \".\" : \"No task ran or waited \" + where + \".\";\n\
-}\nconst LARGE = 4e6;\nfunction start() {\nrun = readRun();\nrun.isByTask = isByTask();\nview.until = run.duration;\n\
+}\nfunction tellMerged() {\n\
+element(\"merged\").textContent = \"Stretches that together last at most \" + timeText(run.together) + \" are drawn as one, \" +\n\
+\"without their CPUs and queues. What waited and is due is estimated. scxsim view-part has all of a part.\";\n\
+element(\"merged\").hidden = false;\nelement(\"cpus\").parentNode.hidden = true;\n}\nconst LARGE = 4e6;\n\
+function start() {\nrun = readRun();\nrun.isByTask = isByTask();\nview.until = run.duration;\n\
 const mean = run.cpuFrom.length ? run.cpuBefore[run.cpuFrom.length] / run.cpuFrom.length : 1;\n\
 view.window = Math.min(run.duration / 4, Math.max(10 * mean / Math.min(4, run.processors), run.duration / 150));\n\
-if (run.processors > MOST_CPUS) view.folded.add(\"cpus\");\n\
+if (run.processors > MOST_CPUS || run.isMerged) view.folded.add(\"cpus\");\n\
 if (run.processors > MOST_CPUS || run.tracks.length > 4 || run.tasks.length > 64) view.folded.add(\"queues\");\n\
 foldLargest();\nconst most = Math.max(0, ...run.groups.map((group) => Math.max(group.share, group.due)));\n\
 view.top = most > 0.5 || most === 0 ? 1 : Math.ceil(most * 15) / 10;\n\

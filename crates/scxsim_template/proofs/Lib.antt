@@ -1,0 +1,2 @@
+mod Drawing
+mod Few
