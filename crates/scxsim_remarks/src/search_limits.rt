@@ -30,41 +30,47 @@ fn hint_of_sizes(
     workload: &Workload,
     maps: MapSizes,
 ) -> Result<Option<String>, AllocError> {
-    let tasks = workload.tasks().len();
-    let mut said = Text::new(alloc);
-    if tasks > MOST_TASKS {
-        push_limit(
-            &mut said,
-            "the workload has",
-            tasks as u64,
-            "tasks",
-            MOST_TASKS as u64,
-        );
-    } else if workload.cpus() > MOST_CPUS {
-        let cpus = u64::from(workload.cpus());
-        push_limit(
-            &mut said,
-            "the workload has",
-            cpus,
-            "CPUs",
-            u64::from(MOST_CPUS),
-        );
-    } else if maps.all > MOST_BYTES as u64 {
-        push_limit(
-            &mut said,
-            "the policy's maps have",
-            maps.all,
-            "bytes",
-            MOST_BYTES as u64,
-        );
-        said.number("; map ", u64::from(maps.largest));
-        said.number(" has ", maps.most);
-    } else {
-        drop(said);
+    let Some(excess) = excess_of(workload, maps) else {
         return Ok(None);
-    }
+    };
+    let mut said = Text::new(alloc);
+    push_excess(&mut said, excess);
     said.push("\n");
     Ok(Some(said.finish()?))
+}
+
+/// The first number that is past its limit.
+enum Excess {
+    Tasks(u64),
+    Cpus(u64),
+    Bytes(MapSizes),
+}
+
+fn excess_of(workload: &Workload, maps: MapSizes) -> Option<Excess> {
+    let (tasks, cpus) = (workload.tasks().len(), workload.cpus());
+    if tasks > MOST_TASKS {
+        Some(Excess::Tasks(tasks as u64))
+    } else if cpus > MOST_CPUS {
+        Some(Excess::Cpus(u64::from(cpus)))
+    } else if maps.all > MOST_BYTES as u64 {
+        Some(Excess::Bytes(maps))
+    } else {
+        None
+    }
+}
+
+fn push_excess(said: &mut Text, excess: Excess) {
+    let workload = "the workload has";
+    match excess {
+        Excess::Tasks(tasks) => push_limit(said, workload, tasks, "tasks", MOST_TASKS as u64),
+        Excess::Cpus(cpus) => push_limit(said, workload, cpus, "CPUs", u64::from(MOST_CPUS)),
+        Excess::Bytes(maps) => {
+            let (all, most) = (maps.all, MOST_BYTES as u64);
+            push_limit(said, "the policy's maps have", all, "bytes", most);
+            said.number("; map ", u64::from(maps.largest));
+            said.number(" has ", maps.most);
+        }
+    }
 }
 
 /// `hint: the workload has 9 tasks; a search takes 8 at most`.
