@@ -168,7 +168,7 @@ impl Argument {
                 "The sequences to try. events: any order of single events; ms: whole milliseconds, in which every CPU ticks once; workloads: only those that a workload file can produce [possible values: events, ms, workloads]"
             }
             Argument::Depth => {
-                "The most events in a sequence, 1 to 64; in the modes ms and workloads the most milliseconds, 1 to 65535"
+                "The greatest length of a sequence: events, 1 to 64, where ticks until a slice ends may count as one; in the modes ms and workloads milliseconds, 1 to 65535"
             }
             Argument::Few => "The most wakes and sleeps in a sequence, 0 to 64",
             Argument::Cases => "A file of cases; see docs/CASES.md",
