@@ -101,12 +101,12 @@ prepends_two s t i slots e h wide k rest r = record {
 
 fails_behind : (m k from : ℕ) (slots longer : List Slot) (fault : DecodeFault) (j : ℕ) → from ≡ m + k → Prepends m slots longer → FailsFrom from slots fault j → FailsFrom k longer fault j
 fails_behind m k from slots longer fault j c more (FromInsn n e f) =
-    FromInsn (m + n) (omega arith) (record { slot = f.slot; behind = f.behind; rest = more n _ f.rest; fails = f.fails })
+    FromInsn (m + n) (omega arith) (record { slot = f.slot; after = f.after; rest = more n _ f.rest; fails = f.fails })
 fails_behind m k from slots longer fault j c more (FromHalf n e d f) =
     FromHalf (m + n) (omega arith) d (record {
       slot = f.slot;
       half = f.half;
-      behind = f.behind;
+      after = f.after;
       rest = more n _ f.rest;
       insn = f.insn;
       begins = f.begins;
@@ -119,7 +119,7 @@ starts : (slots : List Slot) → IsRest slots 0 slots
 starts slots = record { front = []; insns = tt; split = refl; number = refl }
 
 fails_here : (k : ℕ) (s : Slot) (slots : List Slot) (fault : DecodeFault) (j : ℕ) → insn_at s (slot_in_front slots) ≡ Err fault → j ≡ k → FailsFrom k (s ∷ slots) fault j
-fails_here k s slots fault j e same = FromInsn 0 (omega arith) (record { slot = s; behind = slots; rest = starts (s ∷ slots); fails = e })
+fails_here k s slots fault j e same = FromInsn 0 (omega arith) (record { slot = s; after = slots; rest = starts (s ∷ slots); fails = e })
 
 -- what reading fails by behind an instruction is the first fault there
 fails_on : (k : ℕ) (s t : Slot) (slots : List Slot) (fault : DecodeFault) (j : ℕ) (i : Insn) → s ≡ first_slot i → IsInsn i → insn_at s (Some t) ≡ Ok i
@@ -132,7 +132,7 @@ fails_on k s t slots fault j i e h begins fails one two = go (second_slot i) ref
     go : (o : Option Slot) → second_slot i ≡ o → FailsFrom k (s ∷ t ∷ slots) fault j
     go None narrow = fails_behind 1 k (suc k) (t ∷ slots) (s ∷ t ∷ slots) fault j (omega arith) (prepends_one s i (t ∷ slots) e h narrow) (one (rw narrow at fails))
     go (Some due) wide = elim (fails_half (suc k) due t slots fault j (rw wide at fails)) [
-      | In other d same ↦ FromHalf 0 (omega arith) d (record { slot = s; half = t; behind = slots; rest = starts _; insn = i; begins = begins; due = due; wide = wide; fails = other })
+      | In other d same ↦ FromHalf 0 (omega arith) d (record { slot = s; half = t; after = slots; rest = starts _; insn = i; begins = begins; due = due; wide = wide; fails = other })
       | Past same rest ↦ fails_behind 2 k (suc (suc k)) slots (s ∷ t ∷ slots) fault j (omega arith) (prepends_two s t i slots e h (wide ∙ ap (λ d. Some d) (sym same))) (two rest)
     ]
 
@@ -182,7 +182,7 @@ unfolding read_slots
 no_insn k s slots fault e = rw e refl
 
 insn_fails : (slots : List Slot) (fault : DecodeFault) (k : ℕ) → FailsAtInsn slots fault k → read_slots 0 None slots ≡ Err (fault, k)
-insn_fails slots fault k f = rest_fails slots _ k (fault, k) f.rest (no_insn k f.slot f.behind fault f.fails)
+insn_fails slots fault k f = rest_fails slots _ k (fault, k) f.rest (no_insn k f.slot f.after fault f.fails)
 
 no_half : (k : ℕ) (s t : Slot) (slots : List Slot) (i : Insn) (due : Slot) → insn_at s (Some t) ≡ Ok i → second_slot i ≡ Some due → same_slot t due ≡ false
     → read_slots k None (s ∷ t ∷ slots) ≡ Err (UnusedField, suc k)
@@ -197,7 +197,7 @@ not_same s t other = go (same_slot s t) refl
     go false e = e
 
 half_fails : (slots : List Slot) (k : ℕ) → FailsInHalf slots k → read_slots 0 None slots ≡ Err (UnusedField, suc k)
-half_fails slots k f = rest_fails slots _ k (UnusedField, suc k) f.rest (no_half k f.slot f.half f.behind f.insn f.due f.begins f.wide (not_same f.half f.due f.fails))
+half_fails slots k f = rest_fails slots _ k (UnusedField, suc k) f.rest (no_half k f.slot f.half f.after f.insn f.due f.begins f.wide (not_same f.half f.due f.fails))
 
 -- ---- what is wrong with bytes first
 

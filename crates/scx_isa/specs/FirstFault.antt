@@ -26,16 +26,16 @@ pub record IsRest (slots : List Slot) (k : ℕ) (rest : List Slot) : Type 0 wher
 -- the k-th slot begins no instruction, by that fault
 pub record FailsAtInsn (slots : List Slot) (fault : DecodeFault) (k : ℕ) : Type 0 where
   pub slot : Slot
-  pub behind : List Slot
-  pub rest : IsRest slots k (slot ∷ behind)
-  pub fails : insn_at slot (slot_in_front behind) ≡ Err fault
+  pub after : List Slot
+  pub rest : IsRest slots k (slot ∷ after)
+  pub fails : insn_at slot (slot_in_front after) ≡ Err fault
 
 -- the k-th slot begins a wide instruction, and the next slot isn't the second half that is due
 pub record FailsInHalf (slots : List Slot) (k : ℕ) : Type 0 where
   pub slot : Slot
   pub half : Slot
-  pub behind : List Slot
-  pub rest : IsRest slots k (slot ∷ half ∷ behind)
+  pub after : List Slot
+  pub rest : IsRest slots k (slot ∷ half ∷ after)
   pub insn : Insn
   pub begins : insn_at slot (Some half) ≡ Ok insn
   pub due : Slot

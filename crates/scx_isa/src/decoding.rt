@@ -17,12 +17,12 @@ fn occupant_at_number(
     number: usize,
     due: Option<Slot>,
     slot: &Slot,
-    behind: &[u8],
+    after: &[u8],
 ) -> Result<Option<Insn>, DecodeError>
     ensures { Gives (λ occupant. occupant) result
-        (at_slot number (occupant_at due slot.now (front_slot behind.now))) }
+        (at_slot number (occupant_at due slot.now (front_slot after.now))) }
 {
-    match occupant_of(due, slot, behind) {
+    match occupant_of(due, slot, after) {
         Ok(occupant) => Ok(occupant),
         Err(fault) => refused(fault, number),
     }
@@ -39,11 +39,11 @@ fn read(alloc: Global, bytes: &[u8]) -> Result<Vec<Option<Insn>>, DecodeError>
     let mut rest = bytes;
     let mut due = None;
     for number in 0..slots {
-        let (_, behind) = rest.split_at(SLOT_BYTES);
-        let occupant = occupant_at_number(number, due, &slot_of(rest), behind)?;
+        let (_, after) = rest.split_at(SLOT_BYTES);
+        let occupant = occupant_at_number(number, due, &slot_of(rest), after)?;
         due = due_behind(&occupant);
-        code.push(occupant)?;
-        rest = behind;
+        code.push_reserved(occupant);
+        rest = after;
     }
     Ok(code)
 }

@@ -54,18 +54,18 @@ fn fault_at(program: &Program, slot: usize) -> Option<FlowFault>
     ensures { result ≡ occupant_fault program.now slot (at program.now slot) }
 {
     let insn = program.at(slot)?;
-    let behind = slot + 1;
+    let next = slot + 1;
     match insn {
-        // Where its target is in the program, there is an instruction behind it too.
+        // Where its target is in the program, there is an instruction after it too.
         Insn::JumpIf {
             distance: offset,
             ..
-        } => fault_of_jump(program, behind, i32::from(offset)),
-        Insn::Goto(offset) => fault_of_jump(program, behind, i32::from(offset)),
-        Insn::GotoLong(offset) => fault_of_jump(program, behind, offset),
+        } => fault_of_jump(program, next, i32::from(offset)),
+        Insn::Goto(offset) => fault_of_jump(program, next, i32::from(offset)),
+        Insn::GotoLong(offset) => fault_of_jump(program, next, offset),
         Insn::Exit => None,
-        Insn::LoadImmediate(..) | Insn::LoadMapReference(..) => fault_of_end(program, behind + 1),
-        _ => fault_of_end(program, behind),
+        Insn::LoadImmediate(..) | Insn::LoadMapReference(..) => fault_of_end(program, next + 1),
+        _ => fault_of_end(program, next),
     }
 }
 
@@ -81,14 +81,14 @@ fn fault_of_end(program: &Program, slot: usize) -> Option<FlowFault>
 }
 
 /// The fault of a jump with this offset, counted from the slot after it.
-fn fault_of_jump(program: &Program, behind: usize, offset: i32) -> Option<FlowFault>
-    requires { behind ≤ MAX_SLOTS }
-    ensures { result ≡ jump_fault program.now behind offset }
+fn fault_of_jump(program: &Program, next: usize, offset: i32) -> Option<FlowFault>
+    requires { next ≤ MAX_SLOTS }
+    ensures { result ≡ jump_fault program.now next offset }
 {
     if offset < 0 {
         return Some(FlowFault::BackJump);
     }
-    let target = behind + offset as usize;
+    let target = next + offset as usize;
     if target >= program.slots() {
         Some(FlowFault::OutOfProgram)
     } else if program.at(target).is_none() {

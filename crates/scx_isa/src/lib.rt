@@ -1,9 +1,9 @@
 //! BPF programs in bytes (RFC 9669, sections 3 to 5): reading them, writing them, and the checks of their
 //! control flow.
 //!
-//! `decode` reads the program that bytes spell, or names the first fault and its slot. It alone makes
-//! a `Program`. `encode` gives back the one list of bytes that spells it. `flow` asks whether its
-//! jumps go forward, to instructions, and whether control can't fall off its end.
+//! `decode` reads the program that bytes spell, or names the first fault and its slot. `encode` gives
+//! back the one list of bytes that spells it. `flow` asks whether its jumps go forward, to
+//! instructions, and whether control can't fall off its end.
 //!
 //! The types of instructions and the meaning of programs are in `scx_isa_semantics`, and the encoding of one
 //! instruction is in `scx_isa_encoding`; this crate exports their types too.

@@ -9,7 +9,7 @@ use std::marker::Model;
 /// The most slots that a program may have.
 pub const MAX_SLOTS: usize = 4096;
 
-/// A program of 1 to 4096 slots, which `decode` alone makes.
+/// A program of 1 to 4096 slots.
 ///
 /// In a contract it is the list of its slots: the instruction that begins at each, or none in the
 /// second half of a wide one.
@@ -32,8 +32,9 @@ impl Model for Program {
 }
 
 impl Program {
+    /// The program with these occupants of its slots.
     #[tactic(auto, using(crate::proofs::Codes::count_is))]
-    pub(crate) fn new(code: Vec<Option<Insn>>) -> Program
+    pub fn new(code: Vec<Option<Insn>>) -> Program
         requires { IsProgram code.items }
         ensures { result ≡ code.items }
     {
@@ -93,8 +94,9 @@ impl Program {
 fn count<T: Drop>(occupants: &[Option<T>]) -> usize
     ensures { result ≡ count_by is_some occupants.now }
 {
-    occupants
-        .iter()
-        .filter(|occupant| occupant.is_some())
-        .count()
+    let mut count = 0;
+    for occupant in occupants {
+        count += usize::from(occupant.is_some());
+    }
+    count
 }

@@ -86,7 +86,8 @@ one_below : (n : ℕ) (p : ℕ → Bool) (m : ℕ) (b : Bool) → nat_eq m n ≡
 one_below n p m true e last rest = let same : m ≡ n = eqb-true m n e in rw same last
 one_below n p m false e last rest = rest e
 
-holds_below : (n : ℕ) (p : ℕ → Bool) (m : ℕ) → m < n → all_below n p ≡ true → p m ≡ true
+-- it holds of a number below
+pub holds_below : (n : ℕ) (p : ℕ → Bool) (m : ℕ) → m < n → all_below n p ≡ true → p m ≡ true
 holds_below zero p m h e = absurd (omega arith)
 holds_below (suc n) p m h e =
     let now = both (p n) (all_below n p) e in

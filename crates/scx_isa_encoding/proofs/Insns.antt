@@ -37,6 +37,7 @@ use Rattle.scx_isa_encoding.specs.Opcodes.{opcode, form, base, source_of, arithm
 use Rattle.scx_isa_semantics.specs.Code.{is_wide}
 use Rattle.scx_isa_encoding.specs.Spelling.{first_slot, second_slot, half, destination_field, source_field, offset_field, immediate_field, operation_offset, extension_offset, order_bits, operand_register, operand_immediate, IsOperand, IsInsn}
 use Rattle.scx_isa_encoding.proofs.Bytes.{same_fields}
+use Rattle.scx_isa_encoding.proofs.Codes.{without_offset}
 use Rattle.scx_isa_semantics.specs.Results.{◌>>=◌}
 use Rattle.scx_isa_encoding.specs.Reading.{register_of_field, operand_at, extensions, extension_at, binary_at, order_widths, high_half, insn_of_form, whole, insn_at}
 
@@ -198,6 +199,12 @@ insn_is_spelled s next i fits half e =
     let r = whole_reads s next q.0 i q.2 in
     let here : Reads s next q.0 = record { slot = r.slot; insn = builds p.0 s next q.0 fits half q.1; second = r.second } in
     subst (Reads s next) r.same here
+
+-- arithmetic without an offset is the operation of its form
+pub plainly_read : (s : Slot) (next : Option Slot) (w : Width) (o : Operation) (x : Source) (d : Register) (y : Operand)
+    → form_of s.opcode s.source ≡ Ok (Binary w o x) → register_of_field s.destination ≡ Ok d → operand_at x s ≡ Ok y → s.offset ≡ 0
+    → insn_at s next ≡ whole s next (insn.Binary w o d y)
+plainly_read s next w o x d y f p q z = rw (f, p, q, z, without_offset w o d y) refl
 
 -- ---- what is spelled
 

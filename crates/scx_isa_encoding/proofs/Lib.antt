@@ -1,3 +1,4 @@
 pub mod Bytes
 pub mod Codes
+pub mod Classes
 pub mod Insns

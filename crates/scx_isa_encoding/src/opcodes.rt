@@ -9,7 +9,18 @@ use scx_isa_semantics::{Access, ByteOrder, Comparison, Operation, Size, Width};
 
 /// The form of an opcode, or why it has none. The source field is a part of the opcode of calls and
 /// of 64-bit immediates.
+#[inline(always)]
 pub fn form_at(opcode: u8, source: u8) -> Result<Form, DecodeFault>
+    ensures { result ≡ form_of opcode source }
+{
+    match in_class(opcode) {
+        Some(form) => Ok(form),
+        None => other(opcode, source),
+    }
+}
+
+/// The form of any opcode, or why it has none.
+fn other(opcode: u8, source: u8) -> Result<Form, DecodeFault>
     ensures { result ≡ form_of opcode source }
 {
     match opcode {
@@ -77,6 +88,7 @@ fn lone(code: u8) -> Option<Form>
 }
 
 /// The forms that share their operations, by their class.
+#[inline(always)]
 fn in_class(opcode: u8) -> Option<Form>
     ensures { result ≡ class_form (opcode % 8) opcode }
 {
@@ -92,18 +104,21 @@ fn in_class(opcode: u8) -> Option<Form>
     }
 }
 
+#[inline(always)]
 fn load(code: u8) -> Option<Form>
     ensures { result ≡ load_form code }
 {
     Some(Form::Load(access_of(code)?))
 }
 
+#[inline(always)]
 fn store(source: Source, code: u8) -> Option<Form>
     ensures { result ≡ store_form source code }
 {
     Some(Form::Store(size_of(code)?, source))
 }
 
+#[inline(always)]
 fn binary(width: Width, opcode: u8) -> Option<Form>
     ensures { result ≡ binary_form width opcode }
 {
@@ -111,6 +126,7 @@ fn binary(width: Width, opcode: u8) -> Option<Form>
     Some(Form::Binary(width, operation, source_in(opcode)))
 }
 
+#[inline(always)]
 fn jump(width: Width, opcode: u8) -> Option<Form>
     ensures { result ≡ jump_form width opcode }
 {
@@ -118,6 +134,7 @@ fn jump(width: Width, opcode: u8) -> Option<Form>
     Some(Form::JumpIf(width, comparison, source_in(opcode)))
 }
 
+#[inline(always)]
 fn source_in(opcode: u8) -> Source
     ensures { result ≡ source_at opcode }
 {

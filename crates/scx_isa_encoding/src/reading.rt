@@ -21,13 +21,13 @@ use scx_isa_semantics::{
 pub fn occupant_of(
     due: Option<Slot>,
     slot: &Slot,
-    behind: &[u8],
+    after: &[u8],
 ) -> Result<Option<Insn>, DecodeFault>
-    ensures { result ≡ occupant_at due slot.now (front_slot behind.now) }
+    ensures { result ≡ occupant_at due slot.now (front_slot after.now) }
 {
     match due {
         Some(due) => check_half(slot, &due),
-        None => Ok(Some(insn_of(slot, behind)?)),
+        None => Ok(Some(insn_of(slot, after)?)),
     }
 }
 
@@ -40,11 +40,11 @@ pub fn due_behind(occupant: &Option<Insn>) -> Option<Slot>
 
 /// The instruction that begins at a slot, with the bytes after the slot.
 #[inline(always)]
-fn insn_of(slot: &Slot, behind: &[u8]) -> Result<Insn, DecodeFault>
-    ensures { result ≡ insn_at slot.now (front_slot behind.now) }
+fn insn_of(slot: &Slot, after: &[u8]) -> Result<Insn, DecodeFault>
+    ensures { result ≡ insn_at slot.now (front_slot after.now) }
 {
     let form = form_of_slot(slot)?;
-    read(form, slot, behind)
+    read(form, slot, after)
 }
 
 /// The form of a slot's opcode.
@@ -70,14 +70,14 @@ fn check_half(slot: &Slot, due: &Slot) -> Result<Option<Insn>, DecodeFault>
 /// The instruction, whose opcode the slot has, if nothing stands in the slot that it doesn't use and
 /// its second half is there.
 #[inline(always)]
-fn checked(slot: &Slot, behind: &[u8], insn: Insn) -> Result<Insn, DecodeFault>
+fn checked(slot: &Slot, after: &[u8], insn: Insn) -> Result<Insn, DecodeFault>
     requires { slot.now.opcode ≡ opcode (form insn) }
-    ensures { result ≡ whole slot.now (front_slot behind.now) insn }
+    ensures { result ≡ whole slot.now (front_slot after.now) insn }
 {
     if *slot != spelled(slot.opcode, &insn) {
         return Err(DecodeFault::UnusedField);
     }
-    if second_slot_of(&insn).is_some() && first_of(behind).is_none() {
+    if second_slot_of(&insn).is_some() && first_of(after).is_none() {
         return Err(DecodeFault::HalfWide);
     }
     Ok(insn)
@@ -102,24 +102,24 @@ fn spelled(code: u8, insn: &Insn) -> Slot
 /// The instruction of a form with a slot's fields. Each arm checks its own, which spares a second
 /// look at which instruction it is.
 #[inline(always)]
-fn read(form: Form, slot: &Slot, behind: &[u8]) -> Result<Insn, DecodeFault>
+fn read(form: Form, slot: &Slot, after: &[u8]) -> Result<Insn, DecodeFault>
     requires form { form_of slot.now.opcode slot.now.source ≡ Ok form }
     requires opcode { slot.now.opcode ≡ opcode form }
-    ensures { result ≡ insn_at slot.now (front_slot behind.now) }
+    ensures { result ≡ insn_at slot.now (front_slot after.now) }
 {
     let number = slot.immediate.cast_signed();
     match form {
         Form::Binary(width, operation, source) => {
-            checked(slot, behind, build_binary(width, operation, source, slot)?)
+            read_binary(width, operation, source, slot, after)
         }
-        Form::Negate(width) => checked(slot, behind, Insn::Negate(width, first(slot)?)),
-        Form::ByteSwap(order) => checked(slot, behind, build_byte_swap(order, slot)?),
+        Form::Negate(width) => checked(slot, after, Insn::Negate(width, first(slot)?)),
+        Form::ByteSwap(order) => checked(slot, after, build_byte_swap(order, slot)?),
         Form::LoadImmediate => {
-            let insn = Insn::LoadImmediate(first(slot)?, number, high_of(behind));
-            checked(slot, behind, insn)
+            let insn = Insn::LoadImmediate(first(slot)?, number, high_of(after));
+            checked(slot, after, insn)
         }
         Form::LoadMapReference => {
-            checked(slot, behind, Insn::LoadMapReference(first(slot)?, number))
+            checked(slot, after, Insn::LoadMapReference(first(slot)?, number))
         }
         Form::Load(access) => {
             let insn = Insn::Load(
@@ -128,24 +128,24 @@ fn read(form: Form, slot: &Slot, behind: &[u8]) -> Result<Insn, DecodeFault>
                 second(slot)?,
                 slot.offset.cast_signed(),
             );
-            checked(slot, behind, insn)
+            checked(slot, after, insn)
         }
-        Form::Store(size, source) => { checked(slot, behind, build_store(size, source, slot)?) }
+        Form::Store(size, source) => read_store(size, source, slot, after),
         Form::JumpIf(width, comparison, source) => {
-            checked(slot, behind, build_jump(width, comparison, source, slot)?)
+            read_jump(width, comparison, source, slot, after)
         }
-        Form::Goto => checked(slot, behind, Insn::Goto(slot.offset.cast_signed())),
-        Form::GotoLong => checked(slot, behind, Insn::GotoLong(number)),
-        Form::Call => checked(slot, behind, Insn::Call(number)),
-        Form::Exit => checked(slot, behind, Insn::Exit),
+        Form::Goto => checked(slot, after, Insn::Goto(slot.offset.cast_signed())),
+        Form::GotoLong => checked(slot, after, Insn::GotoLong(number)),
+        Form::Call => checked(slot, after, Insn::Call(number)),
+        Form::Exit => checked(slot, after, Insn::Exit),
     }
 }
 
 /// The upper half of a 64-bit immediate; where its slot is missing another fault comes later.
-fn high_of(behind: &[u8]) -> i32
-    ensures { result ≡ cast_signed w32 (high_half (front_slot behind.now)) }
+fn high_of(after: &[u8]) -> i32
+    ensures { result ≡ cast_signed w32 (high_half (front_slot after.now)) }
 {
-    first_of(behind)
+    first_of(after)
         .map_or(0, |half| half.immediate)
         .cast_signed()
 }
@@ -177,41 +177,127 @@ fn operand(source: Source, slot: &Slot) -> Result<Operand, DecodeFault>
     }
 }
 
-/// A store.
+/// A store. Each kind of operand has an arm, so that only the field that it leaves empty is looked at.
 #[inline(always)]
-fn build_store(size: Size, source: Source, slot: &Slot) -> Result<Insn, DecodeFault>
-    ensures built { result ≡ insn_of_form (Form.Store size source) slot.now None }
-    ensures form { IfOk result (λ i. form i ≡ Form.Store size source) }
+fn read_store(size: Size, source: Source, slot: &Slot, after: &[u8]) -> Result<Insn, DecodeFault>
+    requires form { form_of slot.now.opcode slot.now.source ≡ Ok (Form.Store size source) }
+    requires opcode { slot.now.opcode ≡ opcode (Form.Store size source) }
+    ensures { result ≡ insn_at slot.now (front_slot after.now) }
 {
     let base = first(slot)?;
-    let operand = operand(source, slot)?;
-    Ok(Insn::Store(size, base, slot.offset.cast_signed(), operand))
+    let offset = slot.offset.cast_signed();
+    match source {
+        Source::Immediate => {
+            let operand = Operand::Immediate(slot.immediate.cast_signed());
+            checked(slot, after, Insn::Store(size, base, offset, operand))
+        }
+        Source::Register => {
+            let operand = Operand::Register(second(slot)?);
+            checked(slot, after, Insn::Store(size, base, offset, operand))
+        }
+    }
 }
 
 /// A conditional jump.
 #[inline(always)]
-fn build_jump(
+fn read_jump(
     width: Width,
     comparison: Comparison,
     source: Source,
     slot: &Slot,
+    after: &[u8],
 ) -> Result<Insn, DecodeFault>
-    ensures built { result ≡ insn_of_form (Form.JumpIf width comparison source) slot.now None }
-    ensures form { IfOk result (λ i. form i ≡ Form.JumpIf width comparison source) }
+    requires form { form_of slot.now.opcode slot.now.source
+        ≡ Ok (Form.JumpIf width comparison source) }
+    requires opcode { slot.now.opcode ≡ opcode (Form.JumpIf width comparison source) }
+    ensures { result ≡ insn_at slot.now (front_slot after.now) }
 {
     let register = first(slot)?;
-    let operand = operand(source, slot)?;
-    Ok(Insn::JumpIf {
-        width,
-        comparison,
-        register,
-        operand,
-        distance: slot.offset.cast_signed(),
-    })
+    let distance = slot.offset.cast_signed();
+    match source {
+        Source::Immediate => {
+            let operand = Operand::Immediate(slot.immediate.cast_signed());
+            checked(
+                slot,
+                after,
+                Insn::JumpIf {
+                    width,
+                    comparison,
+                    register,
+                    operand,
+                    distance,
+                },
+            )
+        }
+        Source::Register => {
+            let operand = Operand::Register(second(slot)?);
+            checked(
+                slot,
+                after,
+                Insn::JumpIf {
+                    width,
+                    comparison,
+                    register,
+                    operand,
+                    distance,
+                },
+            )
+        }
+    }
 }
 
 /// Arithmetic, or a sign-extending move.
 #[inline(always)]
+fn read_binary(
+    width: Width,
+    operation: Operation,
+    source: Source,
+    slot: &Slot,
+    after: &[u8],
+) -> Result<Insn, DecodeFault>
+    requires form { form_of slot.now.opcode slot.now.source
+        ≡ Ok (Form.Binary width operation source) }
+    requires opcode { slot.now.opcode ≡ opcode (Form.Binary width operation source) }
+    ensures { result ≡ insn_at slot.now (front_slot after.now) }
+{
+    if slot.offset != 0 {
+        return checked(slot, after, build_binary(width, operation, source, slot)?);
+    }
+    read_without_offset(width, operation, source, slot, after)
+}
+
+/// Arithmetic whose slot has no offset.
+#[inline(always)]
+#[tactic(auto, using(crate::proofs::Codes::base_has_opcode, crate::proofs::Codes::without_offset))]
+fn read_without_offset(
+    width: Width,
+    operation: Operation,
+    source: Source,
+    slot: &Slot,
+    after: &[u8],
+) -> Result<Insn, DecodeFault>
+    requires form { form_of slot.now.opcode slot.now.source
+        ≡ Ok (Form.Binary width operation source) }
+    requires opcode { slot.now.opcode ≡ opcode (Form.Binary width operation source) }
+    requires offset { slot.now.offset ≡ 0 }
+    ensures { result ≡ insn_at slot.now (front_slot after.now) }
+{
+    let destination = first(slot)?;
+    match source {
+        Source::Immediate => {
+            let operand = Operand::Immediate(slot.immediate.cast_signed());
+            let insn = Insn::Binary(width, operation, destination, operand);
+            checked(slot, after, insn)
+        }
+        Source::Register => {
+            let operand = Operand::Register(second(slot)?);
+            let insn = Insn::Binary(width, operation, destination, operand);
+            checked(slot, after, insn)
+        }
+    }
+}
+
+/// Arithmetic that an offset selects, or a sign-extending move.
 fn build_binary(
     width: Width,
     operation: Operation,
@@ -228,7 +314,6 @@ fn build_binary(
 }
 
 /// The instruction that the offset selects; `None` if it isn't listed for the operation.
-#[inline(always)]
 #[tactic(auto, using(crate::proofs::Codes::base_has_opcode, crate::proofs::Codes::without_offset))]
 fn binary(
     width: Width,
