@@ -15,13 +15,12 @@ use Rattle.scx_asm.specs.declared.faults.AsmFault.TheVariants.{Syntax, UnknownLa
 use Rattle.scx_asm.specs.declared.faults.AsmError.{AsmError}
 use Rattle.scx_asm.specs.declared.faults.AsmError.TheVariants.{Refused, OutOfMemory}
 use Rattle.scx_asm.specs.Resolving.{insn_of, jump_of, distant, distance, fits, slots, or_out_of_range, Labels, find, insn_for}
-use Rattle.scx_asm.specs.FirstPass.{UnresolvedLine, FirstPassState, nothing_read, at_line, with_label, with_unresolved, with_line, with_text, first_pass, Gives, Fails}
+use Rattle.scx_asm.specs.FirstPass.{UnresolvedLine, FirstPassState, nothing_read, at_line, with_label, with_unresolved, with_line, with_text, first_pass, Gives}
 use Rattle.scx_asm.specs.Reading.{second_pass, insns_of, read_insns, read_text, code_of}
 use Rattle.scx_asm.specs.Standing.{label_at, definitions, names, AreSaid}
 use Rattle.scx_asm.specs.FirstFault.{slots_of, AreFine, IsWrong, FailsAt, IsLost, IsFirstFault, AtLine, NoInsn, AtJump, Answers}
 use Rattle.scx_asm.proofs.Fitting.{bind_ok, located_ok}
 use Rattle.scx_asm.proofs.Standing.{there, found, unresolved_lines, after, plus_none, line_was, text_was, first_pass_was, nothing_less, resolved_was, jump_to, read_as, read_was}
-use Rattle.scx_asm.proofs.Written.{fails_on}
 
 -- ---- faults at lines
 
@@ -391,11 +390,3 @@ answers text (Err (Refused fault line)) e = (first_fault text fault line e, λ c
     differs : {f : AsmFault × ℕ} {c : Code} → Err f ≡ code_is c → ⊥
     differs e = cc
 answers text (Err OutOfMemory) e = tt
-
--- the same for the two ways in which the passes end
-pub answers_of : (text : List ℕ) (is : List Insn) (answer : Result Code AsmError) → read_insns text ≡ Ok is → Gives (λ program. program) answer (Ok (code_of is)) → Answers text answer
-answers_of text is answer e gives = answers text answer (rw e gives)
-
--- the same of an error
-pub refusal_of : (text : List ℕ) (error : AsmError) → Fails error (read_insns text) → Answers text (Err error)
-refusal_of text error fails = answers text (Err error) (fails_on error (read_insns text) fails)

@@ -5,12 +5,11 @@ use Rattle.std.proofs.lemmas.Bool.{ltb-true, ltb-false, lt-ltb, eqb-false}
 use Rattle.std.proofs.lemmas.Int.{ints}
 use Rattle.std.proofs.Math.Facts.{sfits_to_z}
 use Rattle.std.specs.Int.{w16, w32, cast_signed}
-use Rattle.std.specs.List.{AllByRecursion}
 use Rattle.std.specs.Str.Lines.{lines}
 use Rattle.scx_isa_semantics.specs.declared.instructions.Insn.{Insn}
 use Rattle.scx_isa_semantics.specs.declared.instructions.Operand.{Operand}
 use Rattle.scx_isa_semantics.specs.declared.instructions.Operand.TheVariants as operand
-use Rattle.scx_isa_semantics.specs.Code.{is_wide, size}
+use Rattle.scx_isa_semantics.specs.Code.{Code, is_wide, size}
 use Rattle.scx_isa_encoding.specs.Spelling.{IsOperand, IsInsn}
 use Rattle.scx_isa.specs.Spelling.{IsCode, IsProgram}
 use Rattle.scx_isa.specs.declared.program.TheConstants.{MAX_SLOTS}
@@ -28,7 +27,7 @@ use Rattle.scx_asm.specs.declared.faults.AsmFault.TheVariants.{Syntax, UnknownLa
 use Rattle.scx_asm.specs.Resolving.{immediate, short, wide, long, operand_of, insn_of, jump_of, distant, fits, slots, Labels, find, distance, or_out_of_range, insn_for}
 use Rattle.scx_isa_semantics.specs.Results.{◌>>=◌}
 use Rattle.scx_asm.specs.FirstPass.{UnresolvedLine, FirstPassState, nothing_read, at_line, with_label, with_unresolved, with_line, with_text, first_pass}
-use Rattle.scx_asm.specs.Reading.{second_pass, insns_of, read_insns, code_of}
+use Rattle.scx_asm.specs.Reading.{second_pass, insns_of, read_insns, read_text, code_of}
 
 -- ---- what follows a value
 
@@ -206,7 +205,6 @@ total [] = 0
 total (d ∷ ds) = slots d.says + total ds
 
 record Fit (is : List Insn) (n : ℕ) : Type 0 where
-  pub insns : AllByRecursion IsInsn is
   pub code : IsCode false (code_of is)
   pub length : length (code_of is) ≡ n
 
@@ -216,14 +214,14 @@ one_more i is n k h s f = go (is_wide i) refl
     go : (b : Bool) → is_wide i ≡ b → Fit (i ∷ is) (k + n)
     go true w =
         let two : size i ≡ 2 = rw w refl in
-        record { insns = (h, f.insns); code = rw (w, w) (h, f.code); length = rw w (omega (arith, f.length, two)) }
+        record { code = rw (w, w) (h, f.code); length = rw w (omega (arith, f.length, two)) }
     go false w =
         let one : size i ≡ 1 = rw w refl in
-        record { insns = (h, f.insns); code = rw (w, w) (h, f.code); length = rw w (omega (arith, f.length, one)) }
+        record { code = rw (w, w) (h, f.code); length = rw w (omega (arith, f.length, one)) }
 
 built_fits : (labels : Labels) (ds : List UnresolvedLine) (is : List Insn) → second_pass labels ds ≡ Ok is → Fit is (total ds)
 unfolding second_pass
-built_fits labels [] is e = let same : [] ≡ is = cc in subst (λ (is : List Insn). Fit is 0) same (record { insns = tt; code = tt; length = refl })
+built_fits labels [] is e = let same : [] ≡ is = cc in subst (λ (is : List Insn). Fit is 0) same (record { code = tt; length = refl })
 built_fits labels (d ∷ ds) is e =
     let i = bind_ok (at_line d.line (insn_for labels d.slot d.says)) _ is e in
     let rest = bind_ok (second_pass labels ds) _ is i.2 in
@@ -288,28 +286,28 @@ first_pass_sound n p q (text ∷ texts) e h =
 
 -- ---- both passes
 
-pub record Assembled (is : List Insn) : Type 0 where
-  pub insns : AllByRecursion IsInsn is
-  pub program : IsProgram (code_of is)
-
 abbrev no_insns : Result (List Insn) (AsmFault × ℕ)
 no_insns = Err (Syntax, 1)
 
-finished_fits : (p : FirstPassState) (is : List Insn) → insns_of p ≡ Ok is → Sound p → Assembled is
+finished_fits : (p : FirstPassState) (is : List Insn) → insns_of p ≡ Ok is → Sound p → IsProgram (code_of is)
 finished_fits p is e h = go (nat_eq p.slots 0) refl
   where
-    go : (b : Bool) → nat_eq p.slots 0 ≡ b → Assembled is
+    go : (b : Bool) → nat_eq p.slots 0 ≡ b → IsProgram (code_of is)
     go true t = let bad : no_insns ≡ Ok is = rw t at e in absurd (cc)
     go false t =
         let f = built_fits p.labels p.unresolved is (rw t at e) in
         let nonzero = eqb-false _ _ t in
-        record {
-          insns = f.insns;
-          program = record { insns = f.code; some = omega (arith, f.length, h.counted); fits = omega (arith, f.length, h.counted, h.within) };
-        }
+        record { insns = f.code; some = omega (arith, f.length, h.counted); fits = omega (arith, f.length, h.counted, h.within) }
 
--- what is read is the code of a program
-pub assembled : (text : List ℕ) (is : List Insn) → read_insns text ≡ Ok is → Assembled is
+-- instructions that are read are those of a program
+pub assembled : (text : List ℕ) (is : List Insn) → read_insns text ≡ Ok is → IsProgram (code_of is)
 assembled text is e =
     let p = bind_ok (first_pass 1 nothing_read (lines text)) _ is e in
     finished_fits p.0 is p.2 (first_pass_sound 1 nothing_read p.0 (lines text) p.1 (record { counted = refl; within = omega arith }))
+
+-- what is read is a program
+pub program_read : (text : List ℕ) (code : Code) → read_text text ≡ Ok code → IsProgram code
+program_read text code e =
+    let p = bind_ok (read_insns text) _ code e in
+    let same : code_of p.0 ≡ code = cc in
+    subst IsProgram same (assembled text p.0 p.1)

@@ -2,7 +2,6 @@ pub mod Tables
 pub mod FirstPasses
 pub mod SecondPasses
 pub mod Fitting
-pub mod Written
 pub mod Printed
 pub mod TokensBack
 pub mod NamesBack

@@ -502,7 +502,7 @@ read_was text code e =
     let plans = bind_ok (first_pass 1 nothing_read (lines text)) _ insns.0 insns.1 in
     let same : code_of insns.0 ≡ code = cc in
     let laid = first_pass_was 1 nothing_read plans.0 (lines text) plans.1 tt in
-    let fine = (assembled text insns.0 insns.1).program in
+    let fine = assembled text insns.0 insns.1 in
     let once : IsDistinct bytes_eq (names (definitions 0 laid.says)) = subst (λ (p : FirstPassState). IsDistinct bytes_eq (names p.labels)) (sym laid.is) laid.once in
     let one : second_pass (definitions 0 laid.says) (unresolved_lines 1 0 laid.says) ≡ Ok insns.0 = finish_was (after 1 nothing_read laid.says) insns.0 (subst (λ (p : FirstPassState). insns_of p ≡ Ok insns.0) (sym laid.is) plans.2) in
     record {

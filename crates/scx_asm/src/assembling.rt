@@ -1,22 +1,18 @@
-ghost use Rattle.std.specs.Prelude.{◌≡◌, ◌<◌, map, length, IfOk, get_or};
-ghost use Rattle.std.specs.Str.Lines.{lines};
-ghost use Rattle.scx_isa_encoding.specs.Spelling.{IsInsn};
-ghost use Rattle.scx_isa.specs.Spelling.{IsProgram, spelling};
+ghost use Rattle.std.specs.Prelude.{◌≡◌, ◌++◌, map, Ok, OnOk};
+ghost use Rattle.scx_isa_semantics.specs.Results.{◌>>=◌ as ◌>>-◌};
 ghost use Rattle.scx_asm_text.specs.Items.{item_value};
 ghost use Rattle.scx_asm.specs.Resolving.{insn_for, to_label};
 ghost use Rattle.scx_asm.specs.FirstPass.{Gives, unresolved_of};
 ghost use Rattle.scx_asm.specs.Passes.{table, first_pass_of};
-ghost use Rattle.scx_asm.specs.Reading.{second_pass, insns_of, code_of, read_insns, read_text};
+ghost use Rattle.scx_asm.specs.Reading.{second_pass, insns_of, insn_occupants, code_of, read_text};
 ghost use Rattle.scx_asm.specs.FirstFault.{Answers};
-ghost use Rattle.std.specs.List.{AllByRecursion};
 
 use crate::faults::{AsmError, AsmFault};
 use crate::resolving::{jumped_so_far, jumped_to, said};
 use crate::scanning::{FirstPass, Unresolved, refused, scan, slot_of};
 use indexmap::IndexMap;
 use scx_asm_text::{Item, Jump, Target};
-use scx_isa::{DecodeError, Insn, Program, decode};
-use scx_isa_encoding::push_insn;
+use scx_isa::{Insn, Program};
 use std::alloc::{AllocError, Global};
 
 /// The jump to a label, or its fault.
@@ -35,6 +31,7 @@ fn jumped_to_label<'a>(
 }
 
 /// The instruction of an unresolved line, or its fault.
+#[inline(always)]
 fn insn_at<'a>(
     labels: &IndexMap<&'a [u8], u16>,
     unresolved: &Unresolved<'a>,
@@ -55,25 +52,39 @@ fn insn_at<'a>(
     }
 }
 
-/// The second pass: the instructions of all unresolved lines.
-fn second_pass(alloc: Global, pass: &FirstPass<'_>) -> Result<Vec<Insn>, AsmError>
-    ensures { Gives (λ insns. insns.items) result
-        (second_pass (table pass.now.labels.entries)
-        (map unresolved_of pass.now.unresolved.items)) }
+/// Appends the occupants of the slots of an instruction.
+#[inline(always)]
+fn push_occupants(code: &mut Vec<Option<Insn>>, insn: Insn) -> Result<(), AllocError>
+    ensures { OnOk result (code.new.items ≡ code.old.items ++ insn_occupants insn) }
 {
-    let mut insns = Vec::with_capacity(alloc, pass.unresolved.len())?;
+    code.push(Some(insn))?;
+    match insn {
+        Insn::LoadImmediate(..) | Insn::LoadMapReference(..) => code.push(None)?,
+        _ => {}
+    }
+    Ok(())
+}
+
+/// The second pass: the occupants of the slots of all unresolved lines.
+fn second_pass(alloc: Global, pass: &FirstPass<'_>) -> Result<Vec<Option<Insn>>, AsmError>
+    ensures { Gives (λ code. code.items) result
+        ((second_pass (table pass.now.labels.entries) (map unresolved_of pass.now.unresolved.items))
+        >>- (λ insns. Ok (code_of insns))) }
+{
+    let mut code = Vec::with_capacity(alloc, usize::from(pass.slots))?;
     for unresolved in &pass.unresolved {
         match insn_at(&pass.labels, unresolved) {
-            Ok(insn) => insns.push(insn)?,
+            Ok(insn) => push_occupants(&mut code, insn)?,
             Err(fault) => return refused(fault, unresolved.line),
         }
     }
-    Ok(insns)
+    Ok(code)
 }
 
 /// The second pass, if the first one found an instruction.
-fn insns_of(alloc: Global, pass: &FirstPass<'_>) -> Result<Vec<Insn>, AsmError>
-    ensures { Gives (λ insns. insns.items) result (insns_of (first_pass_of pass.now)) }
+fn code_of(alloc: Global, pass: &FirstPass<'_>) -> Result<Vec<Option<Insn>>, AsmError>
+    ensures { Gives (λ code. code.items) result
+        ((insns_of (first_pass_of pass.now)) >>- (λ insns. Ok (code_of insns))) }
 {
     if pass.slots == 0 {
         return refused(AsmFault::Syntax, 1);
@@ -81,41 +92,14 @@ fn insns_of(alloc: Global, pass: &FirstPass<'_>) -> Result<Vec<Insn>, AsmError>
     second_pass(alloc, pass)
 }
 
-/// The instructions of the text.
-#[tactic(auto, using(crate::proofs::Written::fails_first))]
-fn instructions(alloc: Global, text: &str) -> Result<Vec<Insn>, AsmError>
-    ensures { Gives (λ insns. insns.items) result (read_insns text.now) }
+/// The occupants of the slots of the text's program.
+#[tactic(auto, using(crate::proofs::SecondPasses::fails_first))]
+fn read(alloc: Global, text: &str) -> Result<Vec<Option<Insn>>, AsmError>
+    ensures { Gives (λ code. code.items) result (read_text text.now) }
 {
     match scan(alloc, text) {
-        Ok(pass) => insns_of(alloc, &pass),
+        Ok(pass) => code_of(alloc, &pass),
         Err(error) => Err(error),
-    }
-}
-
-/// The bytes that spell the instructions.
-fn bytes_of(alloc: Global, insns: &[Insn]) -> Result<Vec<u8>, AllocError>
-    requires { AllByRecursion IsInsn insns.now }
-    ensures { IfOk result (λ bytes. bytes.items ≡ spelling (code_of insns.now)) }
-{
-    let mut bytes = Vec::new(alloc);
-    for insn in insns {
-        push_insn(&mut bytes, insn)?;
-    }
-    Ok(bytes)
-}
-
-/// The program of these instructions. They are written as slots and decoded, which wants nothing but
-/// memory.
-fn program_of(alloc: Global, insns: &[Insn]) -> Result<Program, AsmError>
-    requires insns { AllByRecursion IsInsn insns.now }
-    requires program { IsProgram (code_of insns.now) }
-    ensures { Gives (λ program. program) result (Ok (code_of insns.now)) }
-{
-    let bytes = bytes_of(alloc, insns)?;
-    match decode(alloc, &bytes) {
-        Ok(program) => Ok(program),
-        Err(DecodeError::OutOfMemory) => Err(AsmError::OutOfMemory),
-        Err(DecodeError::Refused { .. }) => unreachable!(),
     }
 }
 
@@ -123,13 +107,12 @@ fn program_of(alloc: Global, insns: &[Insn]) -> Result<Program, AsmError>
 ///
 /// The first faulty line is refused: by a first pass over all lines, which looks for all faults but
 /// those of labels that jumps go to, and then by a second one, which looks for those.
-#[tactic(auto, using(crate::proofs::Written::fails_on))]
 pub fn assemble(alloc: Global, text: &str) -> Result<Program, AsmError>
     ensures exact { Gives (λ program. program) result (read_text text.now) }
     ensures answers { Answers text.now result }
 {
-    match instructions(alloc, text) {
-        Ok(insns) => program_of(alloc, &insns),
+    match read(alloc, text) {
+        Ok(code) => Ok(Program::new(code)),
         Err(error) => Err(error),
     }
 }

@@ -1,8 +1,7 @@
 //! An assembler and a disassembler for BPF programs, in the dialect that clang and llvm-objdump print.
 //!
 //! `assemble` reads a text line by line: a first pass finds the slots of instructions and labels, and
-//! a second one makes the instructions, with offsets for labels. They are written as slots
-//! and decoded.
+//! a second one makes the instructions, with offsets for labels.
 //! `disassemble` gives the canonical text, which `assemble` reads as the same program.
 //!
 //! A text is made into slots, in `crates/scx_tests_programs/src/malicious.rt`:

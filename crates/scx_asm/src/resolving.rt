@@ -8,6 +8,7 @@ use scx_asm_text::{Item, Jump, Literal, Statement, Target, WrittenOperand};
 use scx_isa::{Access, Insn, Operand, Operation, Register, Size, Width};
 
 /// The number, if it fits 32 bits with its sign.
+#[inline(always)]
 fn immediate_of(number: Literal) -> Option<i32>
     ensures { result ≡ immediate number }
 {
@@ -25,6 +26,7 @@ fn immediate_of(number: Literal) -> Option<i32>
     }
 }
 
+#[inline(always)]
 fn short_of(number: i32) -> Option<i16>
     ensures { result ≡ short number }
 {
@@ -48,6 +50,7 @@ fn long_of(number: Literal) -> Option<u64>
     }
 }
 
+#[inline(always)]
 fn operand_of(argument: WrittenOperand) -> Option<Operand>
     ensures { result ≡ operand_of argument }
 {
@@ -66,6 +69,7 @@ fn immediate_load_of(register: Register, number: Literal) -> Option<Insn>
     Some(Insn::LoadImmediate(register, low.cast_signed(), high.cast_signed()))
 }
 
+#[inline(always)]
 fn binary_of(
     width: Width,
     operation: Operation,
@@ -84,6 +88,7 @@ fn map_reference_of(register: Register, map: Literal) -> Option<Insn>
     Some(Insn::LoadMapReference(register, immediate_of(map)?))
 }
 
+#[inline(always)]
 fn load_of(access: Access, register: Register, base: Register, offset: Literal) -> Option<Insn>
     ensures { result ≡ insn_of (Load access register base offset) }
 {
@@ -91,6 +96,7 @@ fn load_of(access: Access, register: Register, base: Register, offset: Literal) 
     Some(Insn::Load(access, register, base, offset))
 }
 
+#[inline(always)]
 fn store_of(size: Size, base: Register, offset: Literal, argument: WrittenOperand) -> Option<Insn>
     ensures { result ≡ insn_of (Store size base offset argument) }
 {
@@ -105,6 +111,7 @@ fn call_of(helper: Literal) -> Option<Insn>
 }
 
 /// The instruction of a statement, if its numbers fit.
+#[inline(always)]
 fn insn_of(statement: &Statement) -> Option<Insn>
     ensures { result ≡ insn_of statement.now }
 {
@@ -155,6 +162,7 @@ fn distant(jump: Jump, distance: Literal) -> Option<Insn>
 }
 
 /// True if the numbers of the line fit their fields.
+#[inline(always)]
 pub(crate) fn fits(item: &Item<'_>) -> bool
     ensures { result ≡ fits (item_value item.now) }
 {
@@ -167,6 +175,7 @@ pub(crate) fn fits(item: &Item<'_>) -> bool
 }
 
 /// The number of slots that the line's instruction takes.
+#[inline(always)]
 pub(crate) fn slots_of(item: &Item<'_>) -> u16
     ensures slots { result ≡ slots (item_value item.now) }
     ensures most { result ≤ 2 }
@@ -193,6 +202,7 @@ pub(crate) fn jumped_to(target: u16, slot: u16, jump: Jump) -> Result<Insn, AsmF
 }
 
 /// The instruction of a statement, or its fault.
+#[inline(always)]
 pub(crate) fn said(statement: &Statement) -> Result<Insn, AsmFault>
     ensures { result ≡ or_out_of_range (insn_of statement.now) }
 {

@@ -55,6 +55,7 @@ fn push_label<'a>(pass: &mut FirstPass<'a>, number: usize, label: &'a [u8]) -> R
     Ok(())
 }
 
+#[inline(always)]
 fn push_unresolved<'a>(
     pass: &mut FirstPass<'a>,
     number: usize,
@@ -80,6 +81,7 @@ fn push_unresolved<'a>(
     Ok(())
 }
 
+#[inline(always)]
 fn push_item<'a>(pass: &mut FirstPass<'a>, number: usize, item: &Item<'a>) -> Result<(), AsmError>
     ensures { Gives (λ _. first_pass_of pass.new) result
         (at_line number (with_line number (first_pass_of pass.old) (item_value item.now))) }
@@ -91,6 +93,7 @@ fn push_item<'a>(pass: &mut FirstPass<'a>, number: usize, item: &Item<'a>) -> Re
     }
 }
 
+#[inline(always)]
 fn push_line<'a>(
     found: &mut Vec<Token<'a>>,
     pass: &mut FirstPass<'a>,
@@ -121,10 +124,11 @@ pub(crate) fn scan<'a>(alloc: Global, text: &'a str) -> Result<FirstPass<'a>, As
         (first_pass 1 nothing_read (lines text.now)) }
 {
     let lines = lines_of(alloc, text)?;
+    let unresolved = Vec::with_capacity(alloc, lines.len().min(MAX_SLOTS))?;
     let mut pass = FirstPass {
         slots: 0,
         labels: IndexMap::new(alloc),
-        unresolved: Vec::new(alloc),
+        unresolved,
     };
     // Lent to each line.
     let mut found = Vec::new(alloc);

@@ -2,6 +2,7 @@ pub mod Search
 pub mod Firsts
 pub mod Runs
 pub mod Numerals
+pub mod Digits
 pub mod TokenBounds
 pub mod Lexing
 pub mod Names

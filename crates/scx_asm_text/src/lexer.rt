@@ -172,25 +172,25 @@ fn is_blank(byte: u8) -> bool
 
 /// Puts the tokens of a line, up to a comment, in place of what was found before; `false` where bytes
 /// begin no token.
-#[tactic(auto, using(crate::proofs::Lexing::after_blank, crate::proofs::Lexing::at_comment, crate::proofs::Lexing::at_end))]
+#[tactic(auto, using(crate::proofs::Lexing::at_comment, crate::proofs::Lexing::at_end))]
 pub fn tokens<'a>(line: &'a [u8], found: &mut Vec<Token<'a>>) -> Result<bool, AllocError>
     ensures { IfOk result
         (λ all. (if all then Some (lexemes found.new.items) else None) ≡ tokens line.now) }
 {
     found.clear();
     let mut rest = line;
-    let mut touches = false;
+    // How much was left after the last token, which the next one touches if as much is left there.
+    let mut end = line.len() + 1;
     while !rest.is_empty() && rest[0] != b'#' {
         if is_blank(rest[0]) {
             rest = rest.split_at(1).1;
-            touches = false;
         } else {
-            let Some((token, length)) = token_at(rest, touches) else {
+            let Some((token, length)) = token_at(rest, rest.len() == end) else {
                 return Ok(false);
             };
             found.push(token)?;
             rest = rest.split_at(length).1;
-            touches = true;
+            end = rest.len();
         }
     }
     Ok(true)

@@ -106,6 +106,7 @@ pub(crate) fn read_register<'t, 'a>(width: Width, tokens: &'t [Token<'a>]) -> Re
 }
 
 /// The second operand: a register of that width, or a number.
+#[inline(always)]
 pub(crate) fn read_operand<'t, 'a>(
     width: Width,
     tokens: &'t [Token<'a>],
@@ -161,6 +162,7 @@ pub(crate) fn behind_closing<'t, 'a>(tokens: &'t [Token<'a>]) -> Option<&'t [Tok
     }
 }
 
+#[inline(always)]
 pub(crate) fn read_access<'t, 'a>(tokens: &'t [Token<'a>]) -> Read<'t, 'a, Access>
     ensures { option_map (λ x. (x.0, lexemes x.1.now)) result ≡ read_access (lexemes tokens.now) }
 {
@@ -171,6 +173,7 @@ pub(crate) fn read_access<'t, 'a>(tokens: &'t [Token<'a>]) -> Read<'t, 'a, Acces
 }
 
 /// A register and an offset, in parentheses.
+#[inline(always)]
 pub(crate) fn read_address<'t, 'a>(tokens: &'t [Token<'a>]) -> Read<'t, 'a, (Register, Literal)>
     ensures { option_map (λ x. (x.0, lexemes x.1.now)) result ≡ read_address (lexemes tokens.now) }
 {
@@ -180,6 +183,7 @@ pub(crate) fn read_address<'t, 'a>(tokens: &'t [Token<'a>]) -> Read<'t, 'a, (Reg
 }
 
 /// Memory, after the star that it begins with.
+#[inline(always)]
 pub(crate) fn read_memory_operand<'t, 'a>(tokens: &'t [Token<'a>]) -> Read<'t, 'a, MemoryOperand>
     ensures { option_map (λ x. (x.0, lexemes x.1.now)) result
         ≡ read_memory_operand (lexemes tokens.now) }

@@ -1,4 +1,4 @@
-ghost use Rattle.std.specs.Prelude.{◌≡◌, ◌+◌, ◌≤◌, ◌++◌, length, codes, decimal, Some};
+ghost use Rattle.std.specs.Prelude.{◌≡◌, ◌+◌, ◌<◌, ◌≤◌, ◌++◌, ◌∷◌, [], length, codes, decimal, Some};
 ghost use Rattle.std.specs.Fmt.{signed_decimal};
 ghost use Rattle.arrayvec.specs.ArrayString.{array_string_len};
 ghost use Rattle.scx_isa_semantics.specs.Arithmetic.{wide_immediate};
@@ -53,7 +53,18 @@ fn constant_of(low: i32, high: i32) -> u64
     u64::from(low.cast_unsigned()) + (u64::from(high.cast_unsigned()) << 32)
 }
 
-/// Adds a number. Most have one digit.
+/// Adds a digit.
+#[inline(always)]
+fn push_digit(line: &mut Line, digit: u64)
+    requires room { array_string_len line.old ≤ 78 }
+    requires digit { digit < 10 }
+    ensures bytes { line.new.bytes ≡ line.old.bytes ++ (48 + digit) ∷ [] }
+    ensures short { array_string_len line.new ≡ array_string_len line.old + 1 }
+{
+    line.push(char::from(b'0' + digit as u8));
+}
+
+/// Adds a number. Most have one digit or two.
 #[inline(always)]
 #[tactic(auto, using(std::proofs::lemmas::Fmt::decimal_digit))]
 fn push_number(line: &mut Line, number: u64)
@@ -62,7 +73,10 @@ fn push_number(line: &mut Line, number: u64)
     ensures short { array_string_len line.new ≤ array_string_len line.old + 20 }
 {
     if number < 10 {
-        line.push(char::from(b'0' + number as u8));
+        push_digit(line, number);
+    } else if number < 100 {
+        push_digit(line, number / 10);
+        push_digit(line, number % 10);
     } else {
         push_digits(line, number);
     }

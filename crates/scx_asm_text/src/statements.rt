@@ -319,6 +319,7 @@ fn statement_of<'a>(name: &[u8], tokens: &[Token<'a>]) -> Option<Item<'a>>
 }
 
 /// The item of the line with these tokens; `None` if it isn't of the language.
+#[inline(always)]
 pub fn item_of<'a>(tokens: &[Token<'a>]) -> Option<Item<'a>>
     ensures { option_map item_value result ≡ item_of (lexemes tokens.now) }
 {
