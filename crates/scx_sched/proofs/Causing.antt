@@ -17,26 +17,25 @@ use Rattle.scx_sched_world.specs.declared.eject.Eject.TheVariants as cause
 use Rattle.scx_sched_world.specs.declared.faults.Fault.{Fault}
 use Rattle.scx_sched_world.specs.declared.faults.Fault.TheVariants.{NoSuchCpu}
 use Rattle.scx_sched_world.specs.World.{WorldState, task_at}
-use Rattle.scx_sched_world.specs.Tasks.{later, begun_periods}
+use Rattle.scx_sched_world.specs.Tasks.{later}
 use Rattle.scx_sched_world.specs.Waits.{first_overdue, IsFirstOverdue}
 use Rattle.scx_sched_world.specs.Ejecting.{eject_of}
 use Rattle.scx_sched_world.specs.Helpers.{world_functions}
 use Rattle.scx_sched_tasks.specs.Waits.{time_since}
 use Rattle.scx_sched_policy.specs.Policy.{PolicyState}
-use Rattle.scx_sched_machine.specs.Steps.{State, CallMade, Stepped, with_world, stays, one_after_other}
+use Rattle.scx_sched_machine.specs.Steps.{State, CallMade, Stepped, stays, one_after_other}
 use Rattle.scx_sched_machine.specs.Ejecting.{eject}
 use Rattle.scx_sched_machine.specs.Callbacks.{call_ending, answer_fault, as_cause, or_cause, cause_of, IsAnswered, AreAnswered}
 use Rattle.scx_sched_machine.specs.declared.events.Event.{Event}
 use Rattle.scx_sched_machine.specs.declared.events.Event.TheVariants.{Wake, Sleep, Tick, Clock, SetWeight, SetTaskWeight}
 use Rattle.scx_sched_machine.specs.Parking.{let_all_go}
-use Rattle.scx_sched_machine.specs.Firing.{fire_all}
-use Rattle.scx_sched_machine.specs.Events.{overdue, eject_if_stalled, clock, event_step, watch, timers_and_watchdog}
+use Rattle.scx_sched_machine.specs.Events.{overdue, eject_if_stalled, event_step}
 use Rattle.scx_sched_machine.specs.Rounds.{with_rounds}
 use Rattle.scx_sched.specs.Causes.{EndsIn, HasFault, Of_helper, Of_answer, HasExit, Of_call, HasReason, IsLast, IsAmong, IsCause, Waited, Went_wrong, Ended, EjectsOnce, clock_in}
 use Rattle.scx_sched.specs.Sim.{SimState, refusal, calls_if, calls_of, IsValid}
 use Rattle.scx_sched.proofs.Unchanged.{eject_sets}
 use Rattle.scx_sched.specs.Ranges.{IsFine}
-use Rattle.scx_sched.proofs.Blaming.{IsFaultless, AreFaultless, IsHonest, apart, same_eject, honest_let_all_go, honest_joined, honest_stays, honest_with_rounds, no_rounds, honest_fire_all}
+use Rattle.scx_sched.proofs.Blaming.{IsFaultless, AreFaultless, IsHonest, apart, same_eject, no_rounds, begun_ms, clocked, clock_watched, honest_clocked, honest_unwatched}
 use Rattle.scx_sched.proofs.Deciding.{accepted, IsHonestEvent, wake_is_honest, sleep_is_honest, tick_is_honest, weight_is_honest, task_weight_is_honest}
 use Rattle.scx_sched.proofs.Lasting.{AreAsLong, long_fire_all}
 use Rattle.scx_sched.proofs.Letting.{long_let_all_go}
@@ -180,42 +179,32 @@ module _ (s : State) (n : ℕ) where
 
   -- the clock: a callback as a task is let go, or the watchdog
   clock_cause : refusal before_event Clock ≡ None → IsFineNow (length s.world.tasks) n n s.world → AreAnswered (event_step s Clock).calls → EjectsOnce before_event Clock (after_event s n Clock)
-  unfolding clock timers_and_watchdog watch
-  clock_cause ok fine answered = go (overdue r) refl answered (ap (λ o. calls_if o before_event Clock) ok)
+  clock_cause ok fine answered = subst (λ (x : Stepped). AreAnswered (with_rounds x).calls → calls_of before_event Clock ≡ (with_rounds x).calls → EjectsOnce before_event Clock (record { state = (with_rounds x).state; events = n + 1 })) (sym (clock_watched s)) (go (overdue r) refl) answered (ap (λ o. calls_if o before_event Clock) ok)
     where
       many : ℕ
       many = length s.world.tasks
 
       v : State
-      v = with_world s (begun_periods (later s.world))
-
-      l : Stepped
-      l = let_all_go v
+      v = begun_ms s
 
       f : Stepped
-      f = fire_all l.state
+      f = clocked s
 
       r : State
       r = f.state
 
-      go-on : IsHonest v l
-      go-on = honest_let_all_go v
-
-      fires-on : IsHonest l.state f
-      fires-on = honest_fire_all l.state
-
-      honest : IsHonest v (one_after_other l f)
-      honest = honest_joined v l f go-on fires-on
+      honest : IsHonest v f
+      honest = honest_clocked s
 
       -- where the watchdog finds nobody, the rounds follow
       all : Stepped
-      all = with_rounds (one_after_other l (one_after_other f (stays r)))
+      all = with_rounds (one_after_other f (stays r))
 
       honest_all : IsHonest v all
-      honest_all = honest_with_rounds v (one_after_other l (one_after_other f (stays r))) (honest_joined v l (one_after_other f (stays r)) go-on (honest_joined l.state f (stays r) fires-on (honest_stays r)))
+      honest_all = honest_unwatched s
 
       long : AreAsLong v.world r.world
-      long = long_fire_all v.world l.state (long_let_all_go many (IsFine many (n + 1)) (fine_inside many (n + 1)) (fine_events many (n + 1)).let_go n s.world.cpus v (fine_later many n n s.world fine))
+      long = long_fire_all v.world (let_all_go v).state (long_let_all_go many (IsFine many (n + 1)) (fine_inside many (n + 1)) (fine_events many (n + 1)).let_go n s.world.cpus v (fine_later many n n s.world fine))
 
       -- who is found then would be found before
       found : (t : ℕ) → first_overdue r.world r.policy.timeout_ms ≡ Some t → IsFirstOverdue (later s.world) s.policy.timeout_ms t
@@ -224,7 +213,7 @@ module _ (s : State) (n : ℕ) where
           let y = first_late r.world r.policy.timeout_ms t e in
           record { known = omega (arith, y.known, long.1); over = omega (arith, y.over, limit, long.2 t); least = λ u k. omega (arith, y.least u k, limit, long.2 u) }
 
-      go : (o : Option ℕ) → overdue r ≡ o → AreAnswered (with_rounds (one_after_other l (one_after_other f (eject_if_stalled o r)))).calls → calls_of before_event Clock ≡ (with_rounds (one_after_other l (one_after_other f (eject_if_stalled o r)))).calls → EjectsOnce before_event Clock (record { state = (with_rounds (one_after_other l (one_after_other f (eject_if_stalled o r)))).state; events = n + 1 })
+      go : (o : Option ℕ) → overdue r ≡ o → AreAnswered (with_rounds (one_after_other f (eject_if_stalled o r))).calls → calls_of before_event Clock ≡ (with_rounds (one_after_other f (eject_if_stalled o r))).calls → EjectsOnce before_event Clock (record { state = (with_rounds (one_after_other f (eject_if_stalled o r))).state; events = n + 1 })
       go None e answers calls = record { stays = honest_all.stays; cause = λ x force out. for_fault x force out; heard = λ force m f among wrong. no_fault force m f among wrong; obeyed = λ force m code among said. no_exit force m code among said }
         where
           no_fault : all.state.world.ejected ≡ None → (m : CallMade) (f : Fault) → IsAmong m (calls_of before_event Clock) → HasFault m f → ⊥
@@ -241,7 +230,7 @@ module _ (s : State) (n : ℕ) where
       go (Some t) e answers calls =
           let y = cause.Stall t r.world.clock in
           let late = is_late_in r t e in
-          subst (λ (x : Stepped). EjectsOnce before_event Clock (record { state = x.state; events = n + 1 })) (sym (no_rounds (one_after_other l (one_after_other f (eject r y))) y (eject_sets r y).1))
+          subst (λ (x : Stepped). EjectsOnce before_event Clock (record { state = x.state; events = n + 1 })) (sym (no_rounds (one_after_other f (eject r y)) y (eject_sets r y).1))
           (record {
             stays = λ x out. absurd (apart r.world.ejected x late.force (honest.stays x out));
             heard = λ force. absurd (apart (eject r y).state.world.ejected y force (eject_sets r y).1);

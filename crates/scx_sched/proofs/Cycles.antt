@@ -1,37 +1,36 @@
 -- What each small step of a world keeps, whole cycles keep. Before a front is started its queue is cleared, so that
 -- nobody comes to run who may not.
 use Rattle.std.proofs.Common.{◌≡◌, ℕ, zero, suc, ◌+◌, ◌==◌, ◌<◌, Bool, true, false, ◌&&◌, not, if◌then◌else◌, List, [], ◌∷◌, length, set, get_or, Option, Some, None, is_some, is_none, option_map, refl, sym, ap, ◌∙◌, subst, arith}
-use Rattle.std.proofs.lemmas.Bool.{ne_eqb, eq-eqb, and_parts}
+use Rattle.std.proofs.lemmas.Bool.{eq-eqb, and_parts}
 use Rattle.std.proofs.lemmas.Bool.Decides.{nat_tests}
 use Rattle.std.proofs.lemmas.List.{length-set, get_or-set_same}
-use Rattle.scx_dsq.specs.Queues.{entry_of, is_in, len_of, front_of}
+use Rattle.scx_dsq.specs.Queues.{entry_of, is_in, front_of}
 use Rattle.scx_dsq.specs.declared.entries.Entry.{Entry}
 use Rattle.scx_isa_semantics.specs.declared.callbacks.Callback.TheVariants as callback
 use Rattle.scx_weights.specs.Limits.{is_throttled}
-use Rattle.scx_sched_world.specs.Ids.{global, builtin_queue, parked_queue, local_on}
+use Rattle.scx_sched_world.specs.Ids.{parked_queue, local_on}
 use Rattle.scx_sched_world.specs.World.{WorldState, task_at, out_of_cycle, running, note_now, may_run}
 use Rattle.scx_sched_world.specs.declared.eject.Eject.{Eject}
 use Rattle.scx_sched_world.specs.declared.notes.What.TheVariants.{Idle}
-use Rattle.scx_sched_world.specs.declared.notes.Note.{Note}
-use Rattle.scx_sched_world.specs.Tasks.{local_len, to_front, after_stop, started_at, after_run, after_keep, after_leave}
+use Rattle.scx_sched_world.specs.Tasks.{local_len, to_front, started_at, after_run, after_keep, after_leave}
 use Rattle.scx_sched_world.proofs.Fronts.{front_in}
 use Rattle.scx_sched_machine.specs.Steps.{State, Stepped, one_after_other, stays, with_world, is_ejected, is_by_linux, kicked}
-use Rattle.scx_sched_machine.specs.Callbacks.{call_back, cpu_and_task, call_by_linux, noted_by, task_and_number, two_numbers}
+use Rattle.scx_sched_machine.specs.Callbacks.{call_back, call_by_linux, task_and_number, two_numbers}
 use Rattle.scx_sched_machine.specs.Put.{enters, put}
 use Rattle.scx_sched_machine.specs.Filling.{fill}
-use Rattle.scx_sched_machine.specs.Parking.{park, throttled_front, throttled_next, park_next, clear, in_reach, supply}
-use Rattle.scx_sched_machine.specs.Custody.{tells_dequeued, leaver, tells_of, tells_each, moved_as, hears_dequeue, tells_left}
-use Rattle.scx_sched_machine.specs.Cycle.{has_local, keeps_slice, supply_unless_kept, told_of, after_dispatch, asks_again, tries, after_stopping, switched, put_back, leave, started_if, start as run_front, kept, rest, swap, swap_or_rest, builtin_dispatch, builtin_fill, builtin_ask, builtin_cycle, start_or_cycle, picked, refilled, is_local, start_picked, start_picked_or_cycle, give_up, pick, pick_or_rest, keep_or_pick, conclude, ask, seek, look, cycling, cycle, dispatch_called, hears_idle, tells_idle, tells_busy, makes_way, ends, falls_idle, notes_idle, idle_or_anew, becomes_idle, concluded}
+use Rattle.scx_sched_machine.specs.Parking.{park, park_next, clear, supply}
+use Rattle.scx_sched_machine.specs.Cycle.{has_local, keeps_slice, supply_unless_kept, after_dispatch, asks_again, tries, switched, put_back, leave, started_if, start as run_front, kept, rest, swap, swap_or_rest, builtin_fill, builtin_ask, builtin_cycle, start_or_cycle, picked, refilled, is_local, start_picked, start_picked_or_cycle, give_up, pick, pick_or_rest, keep_or_pick, conclude, ask, seek, look, cycling, cycle, dispatch_called, hears_idle, tells_idle, tells_busy, makes_way, ends, falls_idle, notes_idle, idle_or_anew, becomes_idle, concluded}
 use Rattle.scx_sched_machine.proofs.Choices.{keeps_if}
-use Rattle.scx_sched.specs.Kept.{IsKeptBySteps, InFront, with_moved}
+use Rattle.scx_sched.specs.Kept.{IsKeptBySteps, InFront}
 use Rattle.scx_sched.specs.Once.{IsSound}
 use Rattle.scx_sched.proofs.Clear.{IsClear, MayStart, IsPicked, tree_used_up, clear_of}
 use Rattle.scx_sched.proofs.Firsts.{no_front_is_empty}
+use Rattle.scx_sched.proofs.Stepwise.{Stays, KeepsSupply, goes_off, walk_tells_busy, walk_park_next, walk_supply, walk_dispatch_called, walk_dispatched, walk_tries, walk_builtin_fill}
 use Rattle.scx_sched.proofs.Leaving.{LeavesPlainly, out_is_plain}
-use Rattle.scx_sched.proofs.Blaming.{plain_on, honest_stopping, honest_supply, honest_builtin_fill, way_plain, honest_makes_way}
+use Rattle.scx_sched.proofs.Blaming.{plain_on, honest_goes_off, honest_supply, honest_builtin_fill, way_plain, honest_makes_way}
 use Rattle.scx_sched.proofs.Ready.{ready_leave, picked_makes_way, linux_in_force}
-use Rattle.scx_sched.proofs.Supplying.{park_left, park_next_from, clear_from, IsThrottledIn, throttled_is, throttled_next_is, supply_clears, builtin_clears}
-use Rattle.scx_sched.proofs.Skeleton.{IsKnown, once_for, keeps_call_back, keeps_stopping, keeps_running_on, keeps_put, keeps_kicked, keeps_switched, keeps_call_by_linux}
+use Rattle.scx_sched.proofs.Supplying.{park_left, IsThrottledIn, supply_clears, builtin_clears}
+use Rattle.scx_sched.proofs.Skeleton.{IsKnown, once_for, keeps_call_back, keeps_calls, keeps_goes_off, keeps_running_on, keeps_put, keeps_kicked, keeps_switched, keeps_call_by_linux}
 use Rattle.scx_sched.proofs.Sound.{place_known}
 use Rattle.scx_sched.specs.Allowed.{IsAllowedIn}
 use Rattle.scx_sched.proofs.Placing.{may_as, may_put}
@@ -68,69 +67,35 @@ module _ (n : ℕ) (I : ℕ → Option ℕ → List (Option ℕ) → WorldState 
     keeps_park_left s q t apart x h =
         keeps_park (with_world s (after_leave s.world t)) t (omega (arith, (place_known s.world.queues q t x.there).0, (k.sound m None on s.world h).even)) (tree_used_up s.world t x.throttled) (k.steps.left m on s.world q t apart x.there h)
 
-    pub keeps_park_next : (j : ℕ) (s : State) (q c : ℕ) → (q == parked_queue) ≡ false → I m None on s.world → I m None on (park_next j s q c).state.world
-    unfolding park_next
-    keeps_park_next zero s q c apart h = h
-    keeps_park_next (suc j) s q c apart h = go (throttled_next s q c) refl (λ t x. keeps_park_next j (park_left s t).state q c apart x)
-      where
-        go : (o : Option ℕ) → throttled_next s q c ≡ o → ((t : ℕ) → I m None on (park_left s t).state.world → I m None on (park_next j (park_left s t).state q c).state.world) → I m None on (park_next_from j s q c o).state.world
-        go None e more = h
-        go (Some t) e more = more t (keeps_park_left s q t apart (throttled_next_is s q c t e) h)
-
     -- a local queue that is filled
     pub keeps_fill : (s : State) (q c : ℕ) → (q == parked_queue) ≡ false → c < length on → I m None on s.world → I m None on (fill s q c).state.world
     unfolding fill
     keeps_fill s q c apart l h = k.steps.filled m on s.world q c apart l h
 
-    -- and cleared
-    keeps_clear : (j : ℕ) (s : State) (c : ℕ) → c < length on → I m None on s.world → I m None on (clear j s c).state.world
-    unfolding clear
-    keeps_clear zero s c l h = h
-    keeps_clear (suc j) s c l h = go (fill s global c).state (keeps_fill s global c refl l h) (throttled_front (fill s global c).state (local_on c)) refl (λ t x. keeps_clear j (park_left (fill s global c).state t).state c l x)
-      where
-        go : (f : State) → I m None on f.world → (o : Option ℕ) → throttled_front f (local_on c) ≡ o
-            → ((t : ℕ) → I m None on (park_left f t).state.world → I m None on (clear j (park_left f t).state c).state.world) → I m None on (clear_from j f c o).state.world
-        go f x None e more = x
-        go f x (Some t) e more = more t (keeps_park_left f (local_on c) t (ne_eqb (local_on c) parked_queue (λ y. omega (arith, y))) (throttled_is f (local_on c) t e) x)
+    -- so the supply of a local queue can be walked over
+    supplied : (c : ℕ) → c < length on → KeepsSupply (Stays (I m None on)) c
+    supplied c l = record {
+      calls = keeps_calls n I k.steps m None on c l;
+      filled = λ s q apart h. keeps_fill s q c apart l h;
+      parked = keeps_park_left;
+      moved = λ s b h. k.steps.moved m None on s.world b h;
+    }
 
+    -- throttled tasks of another queue are parked
+    pub keeps_park_next : (j : ℕ) (s : State) (q c : ℕ) → (q == parked_queue) ≡ false → c < length on → I m None on s.world → I m None on (park_next j s q c).state.world
+    keeps_park_next j s q c apart l h = walk_park_next (Stays (I m None on)) c (supplied c l) j s q apart h
+
+    -- a local queue is supplied
     pub keeps_supply : (s : State) (c : ℕ) → c < length on → I m None on s.world → I m None on (supply s c).state.world
-    unfolding supply
-    keeps_supply s c l h = keeps_clear (in_reach s c) s c l h
-
-    -- the policy hears who left its custody
-    keeps_tells_of : (o : Option ℕ) (s : State) (c : ℕ) → c < length on → I m None on s.world → I m None on (tells_of o s c).state.world
-    unfolding tells_dequeued
-    keeps_tells_of None s c l h = h
-    keeps_tells_of (Some t) s c l h = keeps_call_by_linux n I k.steps m None on s callback.Dequeue (task_and_number t 0) t c l h
-
-    keeps_tells_each : (ns : List Note) (s : State) (c : ℕ) → c < length on → I m None on s.world → I m None on (tells_each ns s c).state.world
-    keeps_tells_each [] s c l h = h
-    keeps_tells_each (x ∷ xs) s c l h = keeps_tells_each xs (tells_of (leaver x.what) s c).state c l (keeps_tells_of (leaver x.what) s c l h)
-
-    keeps_tells_left : (s : State) (c : ℕ) (ns : List Note) → c < length on → I m None on s.world → I m None on (tells_left s c ns).state.world
-    unfolding tells_left
-    keeps_tells_left s c ns l h = keeps_if (λ (v : Stepped). I m None on v.state.world) (hears_dequeue s) (record (tells_each ns s c) { state = moved_as s.world.call.has_moved r }) (stays s) (keeps_if (λ (v : State). I m None on v.world) (is_ejected r) r (with_world r (with_moved r.world s.world.call.has_moved)) x (k.steps.moved m None on r.world s.world.call.has_moved x)) h
-      where
-        r : State
-        r = (tells_each ns s c).state
-
-        x : I m None on r.world
-        x = keeps_tells_each ns s c l h
+    keeps_supply s c l h = walk_supply (Stays (I m None on)) c (supplied c l) s h
 
     -- a call of dispatch
     pub keeps_dispatch_called : (s : State) (c : ℕ) (p : Option ℕ) → c < length on → I m None on s.world → I m None on (dispatch_called s c p).state.world
-    unfolding dispatch_called
-    keeps_dispatch_called s c p l h =
-        let a = cpu_and_task c (told_of s p) in
-        keeps_tells_left (call_back s callback.Dispatch a 0 c).state c (noted_by s callback.Dispatch a 0 c) l (keeps_call_back n I k.steps m None on s callback.Dispatch a 0 c l h)
+    keeps_dispatch_called s c p l h = walk_dispatch_called (Stays (I m None on)) c (supplied c l) s p h
 
     -- and the local queue supplied
     pub keeps_dispatched : (s : State) (c : ℕ) (p : Option ℕ) → c < length on → I m None on s.world → I m None on (after_dispatch s c p).state.world
-    unfolding after_dispatch supply_unless_kept
-    keeps_dispatched s c p l h =
-        let r = (dispatch_called s c p).state in
-        let x = keeps_dispatch_called s c p l h in
-        keeps_if (λ (r : Stepped). I m None on r.state.world) (keeps_slice r p) (stays r) (supply r c) x (keeps_supply r c l x)
+    keeps_dispatched s c p l h = walk_dispatched (Stays (I m None on)) c (supplied c l) s p h
 
     -- after which the local queue is clear, unless the task before keeps the processor
     abbrev pub MayStartUnlessKept : ℕ → Option ℕ → State → Type 0
@@ -149,12 +114,11 @@ module _ (n : ℕ) (I : ℕ → Option ℕ → List (Option ℕ) → WorldState 
 
     -- several of them
     pub keeps_tries : (j : ℕ) (s : State) (c : ℕ) (p : Option ℕ) → c < length on → I m None on s.world → I m None on (tries j s c p).state.world
-    unfolding tries
-    keeps_tries zero s c p l h = h
-    keeps_tries (suc j) s c p l h =
-        let d = after_dispatch s c p in
-        let x = keeps_dispatched s c p l h in
-        keeps_if (λ (r : Stepped). I m None on r.state.world) (asks_again d.state c p) (one_after_other d (tries j d.state c p)) d (keeps_tries j d.state c p l x) x
+    keeps_tries j s c p l h = walk_tries (Stays (I m None on)) c (supplied c l) j s p h
+
+    -- the dispatch of the built-in scheduler
+    pub keeps_builtin_fill : (s : State) (c : ℕ) → c < length on → I m None on s.world → I m None on (builtin_fill s c).state.world
+    keeps_builtin_fill s c l h = walk_builtin_fill (Stays (I m None on)) c (supplied c l) s h
 
     -- another try comes only where the task before doesn't keep the processor
     tries_go : (j c : ℕ) (p : Option ℕ) (d : Stepped) (b : Bool) → asks_again d.state c p ≡ b → MayStartUnlessKept c p d.state → (MayStart c d.state.world → MayStartUnlessKept c p (tries j d.state c p).state) → MayStartUnlessKept c p (if b then one_after_other d (tries j d.state c p) else d).state
@@ -217,12 +181,11 @@ module _ (n : ℕ) (I : ℕ → Option ℕ → List (Option ℕ) → WorldState 
   unfolding leave
   keeps_leave m on s c None l known runs h = (on, h, l, runs)
   keeps_leave m on s c (Some t) l known runs h =
-      let off = with_world s (after_stop s.world c t) in
       let l' : c < length (set on c None) = rw (length-set on c None) l in
-      let r = after_stopping off c t 1 in
-      let still = honest_stopping off c t 1 in
-      let may = may_as off.world r.state.world still.rules (ap (λ y. y.masks) still.tree) t c ((k.allowed m None on s.world h).runs c t runs) in
-      let x : I (m + 1) (Some t) (set on c None) r.state.world = keeps_stopping n I k.steps m (Some t) (set on c None) off c t 1 l' (k.steps.stopped m on s.world c t l known runs h) in
+      let r = goes_off s c t 1 in
+      let still = honest_goes_off s c t 1 in
+      let may = may_as s.world r.state.world still.rules (ap (λ y. y.masks) still.tree) t c ((k.allowed m None on s.world h).runs c t runs) in
+      let x : I (m + 1) (Some t) (set on c None) r.state.world = keeps_goes_off n I k.steps m (Some t) (set on c None) s c t 1 l' (k.steps.stopped m on s.world c t l known runs h) in
       (set on c None, keeps_put_back (m + 1) (set on c None) r.state c t known l' may x, l', get_or-set_same on c None None l)
 
   -- and leaves the front of the local queue, or nobody in it
@@ -243,13 +206,6 @@ module _ (n : ℕ) (I : ℕ → Option ℕ → List (Option ℕ) → WorldState 
       go : (b : Bool) → has_local s c ≡ b → Some-on c (once_for p m) (if b then swap s c p else rest s c p ran).state.world
       go true some = keeps_swap m on s c p plain l known runs some clear-now h
       go false none = keeps_rest m on s c p ran l h
-
-  -- its dispatch
-  pub keeps_builtin_fill : (m : ℕ) (on : List (Option ℕ)) (s : State) (c : ℕ) → c < length on → I m None on s.world → I m None on (builtin_fill s c).state.world
-  unfolding builtin_fill builtin_dispatch
-  keeps_builtin_fill m on s c l h =
-      let p = park_next (len_of s.world.queues builtin_queue) s builtin_queue c in
-      keeps_if (λ (r : Stepped). I m None on r.state.world) (has_local s c) (stays s) (one_after_other p (fill p.state builtin_queue c)) h (keeps_fill m on p.state builtin_queue c refl l (keeps_park_next m on (len_of s.world.queues builtin_queue) s builtin_queue c refl h))
 
   pub keeps_builtin_cycle : (m : ℕ) (on : List (Option ℕ)) (s : State) (c : ℕ) (p : Option ℕ) (ran : Bool) → LeavesPlainly p s → c < length on → IsKnown n p → get_or on c None ≡ p → I m None on s.world → Some-on c (once_for p m) (builtin_cycle s c p ran).state.world
   unfolding builtin_cycle builtin_ask
@@ -313,17 +269,10 @@ module _ (n : ℕ) (I : ℕ → Option ℕ → List (Option ℕ) → WorldState 
       go None x = absurd (cc)
       go (Some q) x = eq-eqb q.queue (local_on c) (same q.queue (local_on c) x)
 
-  -- the policy hears that the processor isn't idle any more
-  keeps_tells_busy : (m : ℕ) (on : List (Option ℕ)) (s : State) (c : ℕ) (p : Option ℕ) (ran : Bool) → c < length on → I m None on s.world → I m None on (tells_busy s c p ran).state.world
-  unfolding tells_busy tells_idle
-  keeps_tells_busy m on s c None false l h = keeps_call_by_linux n I k.steps m None on s callback.UpdateIdle (two_numbers c 0) 0 c l h
-  keeps_tells_busy m on s c None true l h = h
-  keeps_tells_busy m on s c (Some t) ran l h = h
-
-  -- and the task before leaves
+  -- the task before leaves, once the policy has heard that the processor isn't idle any more
   keeps_makes_way : (m : ℕ) (on : List (Option ℕ)) (s : State) (c : ℕ) (p : Option ℕ) (ran : Bool) → c < length on → IsKnown n p → get_or on c None ≡ p → I m None on s.world → Left (once_for p m) c (makes_way s c p ran).state.world
   unfolding makes_way
-  keeps_makes_way m on s c p ran l known runs h = keeps_leave m on (tells_busy s c p ran).state c p l known runs (keeps_tells_busy m on s c p ran l h)
+  keeps_makes_way m on s c p ran l known runs h = keeps_leave m on (tells_busy s c p ran).state c p l known runs (walk_tells_busy (Stays (I m None on)) c (keeps_calls n I k.steps m None on c l) s p ran h)
 
   keeps_pick : (m : ℕ) (on : List (Option ℕ)) (s : State) (c : ℕ) (p : Option ℕ) (ran : Bool) → c < length on → IsKnown n p → get_or on c None ≡ p → has_local s c ≡ true → IsClear c s.world → I m None on s.world → Some-on c (once_for p m) (pick s c p ran).state.world
   unfolding pick picked

@@ -1,6 +1,6 @@
 -- What events alone decide: the clock, who is runnable, the weights and what was used of quotas. No callback and no cycle
 -- changes these.
-use Rattle.std.proofs.Common.{◌≡◌, ℕ, ◌+◌, ◌<◌, Bool, true, false, ◌==◌, nat_lt, nat_le, if◌then◌else◌, List, [], length, set, get_or, Option, Some, None, refl, sym, ap, subst, ◌∙◌, arith, ◌++◌, ◌∷◌}
+use Rattle.std.proofs.Common.{◌≡◌, ℕ, ◌+◌, ◌<◌, Bool, true, false, ◌==◌, nat_lt, nat_le, if◌then◌else◌, List, [], length, set, get_or, Option, Some, None, refl, sym, ap, subst, ◌∙◌, arith, ◌∷◌}
 use Rattle.std.proofs.lemmas.Bool.Decides.{nat_tests}
 use Rattle.std.proofs.lemmas.List.{length-set}
 use Rattle.std.proofs.lemmas.List.Quantifiers.{position-Some}
@@ -10,16 +10,14 @@ use Rattle.scx_sched_world.specs.declared.eject.Eject.{Eject}
 use Rattle.scx_sched_world.specs.declared.eject.Eject.TheVariants as cause
 use Rattle.scx_sched_world.specs.declared.notes.What.TheVariants as note
 use Rattle.scx_sched_world.specs.World.{is_this, cpu_of, task_at, note_now}
-use Rattle.scx_sched_world.specs.Tasks.{after_stop, after_tick, later, begun_periods, after_leave}
+use Rattle.scx_sched_world.specs.Tasks.{after_stop, after_tick, after_leave}
 use Rattle.scx_sched_machine.specs.declared.events.Event.{Event}
 use Rattle.scx_sched_machine.specs.declared.events.Event.TheVariants.{Wake, Sleep, Tick, Clock, SetWeight, SetTaskWeight}
 use Rattle.scx_sched_machine.specs.declared.events.Refused.TheVariants.{UnknownGroup, BadWeight, RunOver, UnknownTask}
-use Rattle.scx_sched_machine.specs.Steps.{State, Stepped, with_world, stays, one_after_other, is_by_linux}
+use Rattle.scx_sched_machine.specs.Steps.{State, Stepped, with_world, one_after_other, is_by_linux}
 use Rattle.scx_sched_machine.specs.Ejecting.{eject}
-use Rattle.scx_sched_machine.specs.Parking.{let_all_go}
 use Rattle.scx_sched_machine.specs.Custody.{is_in_custody, tells_dequeued_if}
-use Rattle.scx_sched_machine.specs.Firing.{fire_all}
-use Rattle.scx_sched_machine.specs.Events.{wake, leaves_cpu, sleep, tick, overdue, eject_if_stalled, clock, own_step, event_step, leaves_queue, watch, timers_and_watchdog}
+use Rattle.scx_sched_machine.specs.Events.{wake, leaves_cpu, sleep, tick, overdue, eject_if_stalled, clock, own_step, event_step, leaves_queue}
 use Rattle.scx_sched_machine.specs.Rounds.{with_rounds}
 use Rattle.scx_sched_machine.specs.Events as machine
 use Rattle.scx_sched.specs.Sim.{SimState, max_events, refusal, calls_if, IsValid}
@@ -29,7 +27,7 @@ use Rattle.scx_sched.proofs.Unchanged.{eject_sets}
 use Rattle.scx_sched.proofs.Fine.{fine_steps}
 use Rattle.scx_sched.proofs.Events.{IsFineNow, IsTaken, Wakes, Sleeps, Ticks, Clocks, Weighs, is_task, is_taken, known_running, fine_events, fine_ticked, keeps_leaves_cpu, keeps_heard, WeighsTask, custody_waits, keeps_leaves_queue}
 use Rattle.scx_sched.proofs.Tallies.{run_times}
-use Rattle.scx_sched.proofs.Blaming.{IsHonest, state_with_tree, ticked, none_of, eject_policy, eject_calls, honest_wake, honest_sleep, honest_tick, honest_weight, honest_let_all_go, honest_joined, honest_stays, honest_with_rounds, no_rounds, plain_on, honest_fire_all, honest_reweigh}
+use Rattle.scx_sched.proofs.Blaming.{IsHonest, state_with_tree, ticked, begun_ms, clocked, clock_watched, honest_clocked, honest_unwatched, none_of, eject_policy, eject_calls, honest_wake, honest_sleep, honest_tick, honest_weight, honest_with_rounds, no_rounds, plain_on, honest_reweigh}
 
 pub record IsAccepted (s : SimState) (v : Event) : Type 0 where
   pub not_over : (s.events == max_events) ≡ false
@@ -131,40 +129,27 @@ pub record IsDecided (e : Event) (s : State) (r : Stepped) : Type 0 where
 
 -- the clock: tasks are let go, timers run, and the watchdog looks
 clock_decides : (s : State) → IsDecided Clock s (event_step s Clock)
-unfolding clock timers_and_watchdog watch
-clock_decides s = go (overdue f.state)
+clock_decides s = subst (λ (x : Stepped). IsDecided Clock s (with_rounds x)) (sym (clock_watched s)) (go (overdue r.state))
   where
-    v : State
-    v = with_world s (begun_periods (later s.world))
-
     r : Stepped
-    r = let_all_go v
+    r = clocked s
 
-    f : Stepped
-    f = fire_all r.state
+    h : IsHonest (begun_ms s) r
+    h = honest_clocked s
 
-    h : IsHonest v r
-    h = honest_let_all_go v
-
-    k : IsHonest r.state f
-    k = honest_fire_all r.state
-
-    go : (o : Option ℕ) → IsDecided Clock s (with_rounds (one_after_other r (one_after_other f (eject_if_stalled o f.state))))
-    go None =
-        let y = one_after_other f (stays f.state) in
-        let i = honest_with_rounds v (one_after_other r y) (honest_joined v r y h (honest_joined r.state f (stays f.state) k (honest_stays f.state))) in
-        record { clock = i.clock; tree = i.tree; rules = i.rules; policy = i.policy; silent = i.silent }
+    go : (o : Option ℕ) → IsDecided Clock s (with_rounds (one_after_other r (eject_if_stalled o r.state)))
+    go None = let i = honest_unwatched s in record { clock = i.clock; tree = i.tree; rules = i.rules; policy = i.policy; silent = i.silent }
     go (Some t) =
-        let y = cause.Stall t f.state.world.clock in
-        let w = eject f.state y in
-        let sets = eject_sets f.state y in
-        subst (λ (x : Stepped). IsDecided Clock s x) (sym (no_rounds (one_after_other r (one_after_other f w)) y sets.1))
+        let y = cause.Stall t r.state.world.clock in
+        let w = eject r.state y in
+        let sets = eject_sets r.state y in
+        subst (λ (x : Stepped). IsDecided Clock s x) (sym (no_rounds (one_after_other r w) y sets.1))
         (record {
-          clock = sets.0 ∙ (k.clock ∙ h.clock);
-          tree = sets.3 ∙ (k.tree ∙ h.tree);
-          rules = sets.4 ∙ (k.rules ∙ h.rules);
-          policy = eject_policy f.state y ∙ (k.policy ∙ h.policy);
-          silent = λ x out. none_of r.calls (f.calls ++ w.calls) (h.silent x out) (none_of f.calls w.calls (k.silent x (h.stays x out)) (eject_calls f.state y));
+          clock = sets.0 ∙ h.clock;
+          tree = sets.3 ∙ h.tree;
+          rules = sets.4 ∙ h.rules;
+          policy = eject_policy r.state y ∙ h.policy;
+          silent = λ x out. none_of r.calls w.calls (h.silent x out) (eject_calls r.state y);
         })
 
 decided : (v : Event) (s : State) → IsHonestEvent s v → clock_after v s.world.clock ≡ s.world.clock → IsDecided v s (event_step s v)

@@ -20,20 +20,20 @@ use Rattle.scx_sched_world.specs.World.{WorldState, with_tree, switch_at, with_s
 use Rattle.scx_sched_world.specs.declared.call.Insert.{Insert}
 use Rattle.scx_sched_world.specs.declared.timers.Alarm.{Alarm}
 use Rattle.scx_sched_world.specs.Pending.{is_pending, pending_below, first_pending}
-use Rattle.scx_sched_world.specs.Helpers.{is_dispatch, alarm_at, due_now, with_timer, after_fire}
+use Rattle.scx_sched_world.specs.Helpers.{is_dispatch, with_timer}
 use Rattle.scx_sched_world.specs.Tasks.{homed, for_cpu, after_cut_off, after_wake, after_sleep, after_leave, after_stop, let_go, ran_a_tick, after_tick, used_ms, later, begun_periods, after_reweigh, after_own_weight}
 use Rattle.scx_sched_machine.specs.declared.events.Event.{Event}
 use Rattle.scx_sched_machine.specs.declared.events.Event.TheVariants.{Wake, Sleep, Tick, Clock, SetWeight, SetTaskWeight}
 use Rattle.scx_sched_machine.specs.declared.events.Refused.TheVariants.{AlreadyRunnable, NotRunnable, UnknownTask, UnknownCpu, BadWeight}
-use Rattle.scx_sched_machine.specs.Steps.{State, Stepped, with_world, stays, one_after_other, is_ejected, is_by_linux, kicked_if_idle}
-use Rattle.scx_sched_machine.specs.Callbacks.{acting, call_back, call_by_linux, answered_by, one_task, task_cpu_and_0, task_and_number, one_number}
+use Rattle.scx_sched_machine.specs.Steps.{State, Stepped, with_world, stays, is_ejected, is_by_linux, kicked_if_idle}
+use Rattle.scx_sched_machine.specs.Callbacks.{acting, call_back, call_by_linux, answered_by, task_cpu_and_0, task_and_number}
 use Rattle.scx_sched_machine.specs.Parking.{park, let_all_go}
 use Rattle.scx_sched_policy.specs.Policy.{program_of}
 use Rattle.scx_sched_machine.specs.Custody.{is_custody, is_in_custody, tells_dequeued, tells_dequeued_if}
 use Rattle.scx_sched_machine.specs.Cycle.{cycle}
-use Rattle.scx_sched_machine.specs.Firing.{due, fires, fire, fire_below, fire_all}
-use Rattle.scx_sched_machine.specs.Events.{refusal, target, insert_or_put, woken, wake_target, comes_to, while_in_force, told_runnable, settle, inserted_by_choice, chosen, ask_target, asks_target, select, from_waker, wake, told_of_sleep, falls_asleep, looks_after_sleep, leaves_cpu, sleep_from_cpu, sleep_from, sleep, throttle, ends_slices, expire, use_up, hears_tick, tick_heard, count_down, tick_idle, tick_of, tick, overdue, eject_if_stalled, clock, own_step, event_step, leaves_queue, sleep_from_queue, watch, timers_and_watchdog, restore_flag, change_flags, takes_weight, changes_weight, reweigh_running, reweigh_waiting, reweigh_off_cpu, reweigh_at, reweigh_by_linux, reweigh, settle_at_home, cpu_or_home}
-use Rattle.scx_sched_machine.specs.Rounds.{most_rounds, next_to_look, cut_off_if, look_past, look_from, round, round_then, rounds, with_rounds}
+use Rattle.scx_sched_machine.specs.Firing.{fires, fire_all}
+use Rattle.scx_sched_machine.specs.Events.{refusal, target, insert_or_put, woken, wake_target, comes_to, while_in_force, told_runnable, settle, inserted_by_choice, chosen, ask_target, asks_target, select, from_waker, wake, told_of_sleep, falls_asleep, looks_after_sleep, leaves_cpu, sleep_from_cpu, sleep_from, sleep, throttle, ends_slices, expire, use_up, tick_heard, count_down, tick_idle, tick_of, tick, overdue, eject_if_stalled, clock, own_step, event_step, leaves_queue, sleep_from_queue, watch, timers_and_watchdog, change_flags, takes_weight, changes_weight, reweigh_running, reweigh_waiting, reweigh_off_cpu, reweigh_at, reweigh_by_linux, reweigh, settle_at_home, cpu_or_home}
+use Rattle.scx_sched_machine.specs.Rounds.{next_to_look, cut_off_if, look_past, look_from, round, with_rounds}
 use Rattle.scx_sched_machine.proofs.Choices.{keeps_if}
 use Rattle.scx_sched.specs.Once.{runs, GoesSomewhere, IsSound}
 use Rattle.scx_sched.specs.Ranges.{IsFine}
@@ -43,7 +43,8 @@ use Rattle.scx_sched.proofs.Sound.{sound_woken, sound_left, sound_stopped, sound
 use Rattle.scx_sched.proofs.Parking.{sound_let_go, sound_used_ms, sound_begun_periods}
 use Rattle.scx_sched.proofs.Bounded.{within_used, within_used_up, within_turned, within_reweighed, most_used, most_turned, within_own}
 use Rattle.scx_sched.proofs.Homes.{home_is_there, lowest_is_there, home_may, choice_may, target_may}
-use Rattle.scx_sched.proofs.Skeleton.{keeps_eject, keeps_call_back, keeps_call_by_linux, keeps_waker, keeps_stopping, keeps_settled, keeps_homed, keeps_kicked_if_idle, keeps_timer, due_started}
+use Rattle.scx_sched.proofs.Stepwise.{told_no_choice, Stays, stays_walked, owns_all, walk_heard, walk_fires, walk_with_rounds, walk_fire_all, walk_takes_weight, walk_changes_weight, walk_reweigh_running}
+use Rattle.scx_sched.proofs.Skeleton.{keeps_eject, keeps_call_back, keeps_call_by_linux, keeps_waker, keeps_calls, keeps_goes_off, keeps_settled, keeps_homed, keeps_kicked_if_idle, keeps_timer, due_started}
 use Rattle.scx_sched.proofs.Clear.{tree_free, tree_used_up}
 use Rattle.scx_sched.proofs.Ready.{calm_call_back, linux_in_force, not_out}
 use Rattle.scx_sched.proofs.Remembering.{remembers}
@@ -389,23 +390,27 @@ module _ (n : ℕ) (I : ℕ → Option ℕ → List (Option ℕ) → WorldState 
   keeps_told m on s t h = keeps_if (λ (r : State). I m None on r.world) (is_by_linux s) (with_world s (with_slept s.world t)) s (k.steps.sets m None on s.world s.world.claimed s.world.kicked s.world.preempted s.world.call.claims (record s.world.passing { slept = Some t }) (λ d e. e) h) h
 
   -- a task that leaves its processor has been the current one there
-  pub keeps_stop_switch : (m : ℕ) (on : List (Option ℕ)) (w : WorldState) (c t : ℕ) → I m (Some t) on (after_stop w c t) → I m (Some t) on (after_stop (with_switch w c) c t)
+  keeps_stop_switch : (m : ℕ) (on : List (Option ℕ)) (w : WorldState) (c t : ℕ) → I m (Some t) on (after_stop w c t) → I m (Some t) on (after_stop (with_switch w c) c t)
   keeps_stop_switch m on w c t h =
       let x = record w.passing { switching = switch_at w c } in
       keeps_if (λ (v : WorldState). I m (Some t) on (after_stop v c t)) (world.is_by_linux w) (record w { passing = x }) w (k.steps.sets m (Some t) on (after_stop w c t) w.claimed w.kicked w.preempted w.call.claims x (λ d e. e) h) h
 
   pub keeps_leaves_cpu : (m : ℕ) (on : List (Option ℕ)) (s : State) (c t x : ℕ) → c < length on → I m (Some t) on (after_stop s.world c t) → I (m + 1) (Some t) on (leaves_cpu s c t x).state.world
   unfolding leaves_cpu
-  keeps_leaves_cpu m on s c t x l h = keeps_stopping n I k.steps m (Some t) on (with_world s (after_stop (with_switch s.world c) c t)) c t x l (keeps_stop_switch m on s.world c t h)
+  keeps_leaves_cpu m on s c t x l h = keeps_goes_off n I k.steps m (Some t) on (with_world s (with_switch s.world c)) c t x l (keeps_stop_switch m on s.world c t h)
 
   -- a task sleeps, and the policy hears of it
   keeps_falls_asleep : (m : ℕ) (on : List (Option ℕ)) (s : State) (t c : ℕ) → c < length on → I m None on (after_sleep s.world t) → I m None on (falls_asleep s t c).state.world
   unfolding falls_asleep
   keeps_falls_asleep m on s t c l h = keeps_call_by_linux n I k.steps m None on (with_world s (after_sleep s.world t)) callback.Quiescent (task_and_number t 1) t c l h
 
+  -- the processor that a task has left looks for another
+  keeps_cycle_off : (m : ℕ) (on : List (Option ℕ)) (s : State) (c : ℕ) → c < length on → I m None (set on c None) s.world → I m None (cycle s c None true).state.world.cpus (cycle s c None true).state.world
+  keeps_cycle_off m on s c l h = keeps_now m _ (keeps_cycle n I (inside_of n I k) m (set on c None) s c None true (rw (length-set on c None) l) tt (get_or-set_same on c None None l) h)
+
   keeps_sleep_from_cpu : (m : ℕ) (s : State) (t c : ℕ) → t < n → c < length s.world.cpus → get_or s.world.cpus c None ≡ Some t → I m None s.world.cpus s.world → I (m + 1) None (sleep_from_cpu s t c).state.world.cpus (sleep_from_cpu s t c).state.world
   unfolding sleep_from_cpu looks_after_sleep
-  keeps_sleep_from_cpu m s t c within l runs h = keeps_now (m + 1) _ (keeps_cycle n I (inside_of n I k) (m + 1) on (told_of_sleep q t) c None true l' tt (get_or-set_same s.world.cpus c None None l) (keeps_told (m + 1) on q t down))
+  keeps_sleep_from_cpu m s t c within l runs h = keeps_cycle_off (m + 1) s.world.cpus (told_of_sleep q t) c l (keeps_told (m + 1) on q t down)
     where
       on : List (Option ℕ)
       on = set s.world.cpus c None
@@ -504,36 +509,19 @@ module _ (n : ℕ) (I : ℕ → Option ℕ → List (Option ℕ) → WorldState 
       go None at = keeps_cycle_anew m (m + 1) v c None false force l at kept
       go (Some t) at = cut (is_in_set s.world.preempted c) t at
 
-  keeps_rounds : (j m : ℕ) (s : State) → Charged m s → Charged m (rounds j s).state
-  unfolding rounds
-  keeps_rounds zero m s h = h
-  keeps_rounds (suc j) m s h = go (next_to_look s) refl (λ c x. keeps_rounds j m (round s c).state x)
-    where
-      go : (o : Option ℕ) → next_to_look s ≡ o → ((c : ℕ) → Charged m (round s c).state → Charged m (rounds j (round s c).state).state) → Charged m (round_then (λ r. rounds j r) s o).state
-      go None e more = h
-      go (Some c) e more = let x = looks_there s c e in more c (keeps_round m s c (linux_in_force s x.linux) x.there h)
-
   -- the rounds of an event charge no task more: while the policy is in force none was charged, and then no round follows
   pub keeps_with_rounds : (m : ℕ) (r : Stepped) → Charged m r.state → Charged m (with_rounds r).state
-  unfolding with_rounds
-  keeps_with_rounds m r h = keeps_if (λ (r : Stepped). Charged m r.state) (is_by_linux r.state) (one_after_other r (rounds most_rounds r.state)) r (keeps_rounds most_rounds m r.state h) h
+  keeps_with_rounds m r h =
+      let P = λ (w : WorldState). I (m + 1) None w.cpus w in
+      walk_with_rounds (Stays P) (stays_walked P) (λ s c e x. let y = looks_there s c e in keeps_round m s c (linux_in_force s y.linux) y.there x) (Stays P) (stays_walked P).joined r.state r (λ x. x) h
 
   -- a task that may not run any more leaves and is parked
   keeps_throttle : (m : ℕ) (s : State) (c t : ℕ) → t < n → c < length s.world.cpus → limits.is_throttled s.world.tree t ≡ true → I m (Some t) (set s.world.cpus c None) (after_stop s.world c t) → I (m + 1) None (throttle s c t).state.world.cpus (throttle s c t).state.world
   unfolding throttle
-  keeps_throttle m s c t within l throttled h = keeps_now (m + 1) _ (keeps_cycle n I (inside_of n I k) (m + 1) on (park r t).state c None true l' tt (get_or-set_same s.world.cpus c None None l) there)
-    where
-      on : List (Option ℕ)
-      on = set s.world.cpus c None
-
-      l' : c < length on
-      l' = rw (length-set s.world.cpus c None) l
-
-      r : State
-      r = (leaves_cpu s c t 1).state
-
-      there : I (m + 1) None on (park r t).state.world
-      there = keeps_park n I (inside_of n I k) (m + 1) on r t within (ap (λ x. limits.is_throttled x t) (honest_leaves_cpu s c t 1).tree ∙ throttled) (keeps_leaves_cpu m on s c t 1 l' h)
+  keeps_throttle m s c t within l throttled h =
+      let left = keeps_leaves_cpu m (set s.world.cpus c None) s c t 1 (rw (length-set s.world.cpus c None) l) h in
+      let r = (leaves_cpu s c t 1).state in
+      keeps_cycle_off (m + 1) s.world.cpus (park r t).state c l (keeps_park n I (inside_of n I k) (m + 1) (set s.world.cpus c None) r t within (ap (λ x. limits.is_throttled x t) (honest_leaves_cpu s c t 1).tree ∙ throttled) left)
 
   keeps_expire : (m : ℕ) (s : State) (c t : ℕ) → c < length s.world.cpus → get_or s.world.cpus c None ≡ Some t → I m None s.world.cpus s.world → I (m + 1) None (expire s c t).state.world.cpus (expire s c t).state.world
   unfolding expire
@@ -572,8 +560,7 @@ module _ (n : ℕ) (I : ℕ → Option ℕ → List (Option ℕ) → WorldState 
 
   -- the policy hears of a tick
   pub keeps_heard : (m : ℕ) (on : List (Option ℕ)) (s : State) (c t : ℕ) → c < length on → I m None on s.world → I m None on (tick_heard s c t).state.world
-  unfolding tick_heard
-  keeps_heard m on s c t l h = keeps_if (λ (r : Stepped). I m None on r.state.world) (hears_tick s) (call_back s callback.Tick (one_task t) t c) (stays s) (keeps_call_back n I k.steps m None on s callback.Tick (one_task t) t c l h) h
+  keeps_heard m on s c t l h = walk_heard (Stays (I m None on)) c (keeps_calls n I k.steps m None on c l) s t h
 
   pub keeps_count_down : (m : ℕ) (s : State) (c t : ℕ) → t < n → c < length s.world.cpus → get_or s.world.cpus c None ≡ Some t → IsKeptByTick m s.world c t → I (m + 1) None (count_down s c t).state.world.cpus (count_down s c t).state.world
   unfolding count_down
@@ -610,29 +597,13 @@ module _ (n : ℕ) (I : ℕ → Option ℕ → List (Option ℕ) → WorldState 
   -- ---- the clock
 
   -- a timer that runs
-  keeps_fires : (m : ℕ) (on : List (Option ℕ)) (o : Option Alarm) (s : State) (j : ℕ) → ((a : Alarm) → o ≡ Some a → a.cpu < length on) → I m None on s.world → I m None on (fires o s j).state.world
-  keeps_fires m on None s j there h = h
-  keeps_fires m on (Some a) s j there h =
-      let v = with_world s (after_fire s.world j) in
-      let x = keeps_timer n I k.steps m None on (with_timer s.world j None) (Some j) (k.steps.cancelled m None on s.world j h) in
-      keeps_timer n I k.steps m None on (call_by_linux v callback.Timer (one_number j) 0 a.cpu).state.world None (keeps_call_by_linux n I k.steps m None on v callback.Timer (one_number j) 0 a.cpu (there a refl) x)
-
-  keeps_fire : (m : ℕ) (on : List (Option ℕ)) (s : State) (j : ℕ) → I m None on s.world → I m None on (fire s j).state.world
-  unfolding fire due
-  keeps_fire m on s j h = keeps_fires m on (due s j) s j (λ a e. (k.sound m None on s.world h).here.timed j a (started a (is_by_linux s) e)) h
-    where
-      started : (a : Alarm) (b : Bool) → (if b then due_now s.world (alarm_at s.world j) else None) ≡ Some a → alarm_at s.world j ≡ Some a
-      started a true e = due_started s.world j a e
-      started a false e = absurd (cc)
-
-  keeps_fire_below : (m : ℕ) (on : List (Option ℕ)) (j : ℕ) (s : State) → I m None on s.world → I m None on (fire_below j s).state.world
-  keeps_fire_below m on zero s h = h
-  keeps_fire_below m on (suc j) s h = keeps_fire m on (fire_below j s).state j (keeps_fire_below m on j s h)
+  keeps_fires : (m : ℕ) (on : List (Option ℕ)) (s : State) (j : ℕ) (a : Alarm) → a.cpu < length on → I m None on s.world → I m None on (fires (Some a) s j).state.world
+  keeps_fires m on s j a there h =
+      walk_fires (Stays (I m None on)) s j a (keeps_calls n I k.steps m None on a.cpu there) (λ x. keeps_timer n I k.steps m None on (with_timer s.world j None) (Some j) (k.steps.cancelled m None on s.world j x)) (λ r x. keeps_timer n I k.steps m None on r.world None x) h
 
   -- all timers that are due
   pub keeps_fire_all : (m : ℕ) (on : List (Option ℕ)) (s : State) → I m None on s.world → I m None on (fire_all s).state.world
-  unfolding fire_all
-  keeps_fire_all m on s h = keeps_fire_below m on (length s.world.timers) s h
+  keeps_fire_all m on s h = walk_fire_all (Stays (I m None on)) (stays_walked (I m None on)) (λ v j a linux e x. keeps_fires m on v j a ((k.sound m None on v.world x).here.timed j a (due_started v.world j a e)) x) s h
 
   -- where that the clock goes on and periods begin is kept
   pub keeps_clock : (m : ℕ) (s : State) → I m None s.world.cpus (begun_periods (later s.world)) → I m None (clock s).state.world.cpus (clock s).state.world
@@ -654,46 +625,27 @@ module _ (n : ℕ) (I : ℕ → Option ℕ → List (Option ℕ) → WorldState 
 
   -- ---- a task's own weight
 
-  keeps_takes_weight : (m : ℕ) (hand : Option ℕ) (on : List (Option ℕ)) (s : State) (t c x : ℕ) → c < length on → I m hand on s.world → I m hand on (takes_weight s t c x).state.world
-  unfolding takes_weight
-  keeps_takes_weight m hand on s t c x l h = keeps_call_by_linux n I k.steps m hand on (with_world s (after_own_weight s.world t x)) callback.SetWeight (task_and_number t x) t c l (k.weighed m hand on s.world t x h)
+  module _ (m : ℕ) (hand : Option ℕ) (on : List (Option ℕ)) (s : State) (t c x : ℕ) (l : c < length on) where
+    weighed : (v : State) → Stays (I m hand on) v (stays (with_world v (after_own_weight v.world t x)))
+    weighed v h = k.weighed m hand on v.world t x h
 
-  keeps_changes_weight : (m : ℕ) (hand : Option ℕ) (on : List (Option ℕ)) (s : State) (t c x : ℕ) → c < length on → I m hand on s.world → I m hand on (changes_weight s t c x).state.world
-  unfolding changes_weight
-  keeps_changes_weight m hand on s t c x l h =
-      let q = (call_by_linux s callback.Quiescent (task_and_number t change_flags) t c).state in
-      let y = keeps_takes_weight m hand on q t c x l (keeps_call_by_linux n I k.steps m hand on s callback.Quiescent (task_and_number t change_flags) t c l h) in
-      keeps_call_by_linux n I k.steps m hand on (takes_weight q t c x).state callback.Runnable (task_and_number t restore_flag) t c l y
+    keeps_takes_weight : I m hand on s.world → I m hand on (takes_weight s t c x).state.world
+    keeps_takes_weight h = walk_takes_weight (Stays (I m hand on)) (Stays (I m hand on)) (owns_all (Stays (I m hand on)) (stays_walked (I m hand on))) t x weighed c (keeps_calls n I k.steps m hand on c l) s h
 
-  keeps_reweigh_running : (m : ℕ) (on : List (Option ℕ)) (s : State) (t c x : ℕ) → c < length on → I m None on s.world → I m None on (reweigh_running s t c x).state.world
-  unfolding reweigh_running
-  keeps_reweigh_running m on s t c x l h =
-      let a = (call_by_linux s callback.Stopping (task_and_number t 0) t c).state in
-      let y = keeps_changes_weight m None on a t c x l (keeps_call_by_linux n I k.steps m None on s callback.Stopping (task_and_number t 0) t c l h) in
-      keeps_call_by_linux n I k.steps m None on (changes_weight a t c x).state callback.Running (one_task t) t c l y
+    keeps_changes_weight : I m hand on s.world → I m hand on (changes_weight s t c x).state.world
+    keeps_changes_weight h = walk_changes_weight (Stays (I m hand on)) (Stays (I m hand on)) (owns_all (Stays (I m hand on)) (stays_walked (I m hand on))) t x weighed c (keeps_calls n I k.steps m hand on c l) s h
+
+    keeps_reweigh_running : I m hand on s.world → I m hand on (reweigh_running s t c x).state.world
+    keeps_reweigh_running h = walk_reweigh_running (Stays (I m hand on)) (Stays (I m hand on)) (owns_all (Stays (I m hand on)) (stays_walked (I m hand on))) t x weighed c (keeps_calls n I k.steps m hand on c l) s h
 
   -- it changes neither rules nor masks
-  masks_taken : (s : State) (t c x : ℕ) → (takes_weight s t c x).state.world.tree.masks ≡ s.world.tree.masks
-  unfolding takes_weight
-  masks_taken s t c x = ap (λ y. y.masks) (honest_call_by_linux (with_world s (after_own_weight s.world t x)) callback.SetWeight (task_and_number t x) t c (λ e. absurd (cc))).tree ∙ keeps_if (λ (v : WorldState). v.tree.masks ≡ s.world.tree.masks) (is_none (own_weight_fault s.world.tree t x)) _ s.world refl refl
-
-  rules_taken : (s : State) (t c x : ℕ) → (takes_weight s t c x).state.world.rules ≡ s.world.rules
-  unfolding takes_weight
-  rules_taken s t c x = (honest_call_by_linux (with_world s (after_own_weight s.world t x)) callback.SetWeight (task_and_number t x) t c (λ e. absurd (cc))).rules ∙ keeps_if (λ (v : WorldState). v.rules ≡ s.world.rules) (is_none (own_weight_fault s.world.tree t x)) _ s.world refl refl
-
-  masks_changes : (s : State) (t c x : ℕ) → (changes_weight s t c x).state.world.tree.masks ≡ s.world.tree.masks
-  unfolding changes_weight
-  masks_changes s t c x =
-      let q = (call_by_linux s callback.Quiescent (task_and_number t change_flags) t c).state in
-      ap (λ y. y.masks) (honest_call_by_linux (takes_weight q t c x).state callback.Runnable (task_and_number t restore_flag) t c (λ e. absurd (cc))).tree
-      ∙ (masks_taken q t c x ∙ ap (λ y. y.masks) (honest_call_by_linux s callback.Quiescent (task_and_number t change_flags) t c (λ e. absurd (cc))).tree)
-
-  rules_changes : (s : State) (t c x : ℕ) → (changes_weight s t c x).state.world.rules ≡ s.world.rules
-  unfolding changes_weight
-  rules_changes s t c x =
-      let q = (call_by_linux s callback.Quiescent (task_and_number t change_flags) t c).state in
-      (honest_call_by_linux (takes_weight q t c x).state callback.Runnable (task_and_number t restore_flag) t c (λ e. absurd (cc))).rules
-      ∙ (rules_taken q t c x ∙ (honest_call_by_linux s callback.Quiescent (task_and_number t change_flags) t c (λ e. absurd (cc))).rules)
+  ruled_changes : (s : State) (t c x : ℕ) → let w = (changes_weight s t c x).state.world in (w.rules ≡ s.world.rules) × (w.tree.masks ≡ s.world.tree.masks)
+  ruled_changes s t c x =
+      walk_changes_weight (Stays P) (Stays P) (owns_all (Stays P) (stays_walked P)) t x (λ v h. keeps_if P (is_none (own_weight_fault v.world.tree t x)) (with_tree v.world (with_own_weight v.world.tree t x)) v.world h h) c
+      (record { steps = stays_walked P; called = λ v b a u told h. let y = honest_call_back v b a u c (λ e. absurd (told_no_choice b told e)) in (y.rules ∙ h.0, ap (λ z. z.masks) y.tree ∙ h.1) }) s (refl, refl)
+    where
+      P : WorldState → Type 0
+      P w = (w.rules ≡ s.world.rules) × (w.tree.masks ≡ s.world.tree.masks)
 
   keeps_reweigh_waiting : (m : ℕ) (on : List (Option ℕ)) (s : State) (t c x : ℕ) → may_run s.world t c ≡ true → t < n → c < length on → waits s.world t ≡ true → I m None on s.world → I m None on (reweigh_waiting s t c x).state.world
   unfolding reweigh_waiting
@@ -701,7 +653,7 @@ module _ (n : ℕ) (I : ℕ → Option ℕ → List (Option ℕ) → WorldState 
       let a = (leaves_queue s t c change_flags).state in
       let b = (changes_weight a t c x).state in
       let left = honest_leaves_queue s t c change_flags in
-      keeps_put_at n I (inside_of n I k) m on b t c 0 within l (may_as a.world b.world (rules_changes a t c x) (masks_changes a t c x) t c (may_as s.world a.world left.rules (ap (λ y. y.masks) left.tree) t c may)) (keeps_changes_weight m (Some t) on a t c x l (keeps_leaves_queue m on s t c change_flags within l here h))
+      keeps_put_at n I (inside_of n I k) m on b t c 0 within l (may_as a.world b.world (ruled_changes a t c x).0 (ruled_changes a t c x).1 t c (may_as s.world a.world left.rules (ap (λ y. y.masks) left.tree) t c may)) (keeps_changes_weight m (Some t) on a t c x l (keeps_leaves_queue m on s t c change_flags within l here h))
 
   keeps_reweigh_off_cpu : (m : ℕ) (on : List (Option ℕ)) (s : State) (t c x : ℕ) → may_run s.world t c ≡ true → t < n → c < length on → I m None on s.world → I m None on (reweigh_off_cpu s t c x).state.world
   unfolding reweigh_off_cpu
@@ -713,7 +665,7 @@ module _ (n : ℕ) (I : ℕ → Option ℕ → List (Option ℕ) → WorldState 
 
   keeps_reweigh_at : (m : ℕ) (on : List (Option ℕ)) (o : Option ℕ) (s : State) (t x : ℕ) → ((c : ℕ) → o ≡ Some c → c < length on) → t < n → I m None on s.world → I m None on (reweigh_at o s t x).state.world
   keeps_reweigh_at m on None s t x there within h = keeps_reweigh_off_cpu m on s t (task_at s.world t).prev_cpu x ((k.allowed m None on s.world h).home t within) within ((k.sound m None on s.world h).homes t) h
-  keeps_reweigh_at m on (Some c) s t x there within h = keeps_reweigh_running m on s t c x (there c refl) h
+  keeps_reweigh_at m on (Some c) s t x there within h = keeps_reweigh_running m None on s t c x (there c refl) h
 
   -- a task that has another weight
   pub keeps_reweigh : (m : ℕ) (s : State) (t x : ℕ) → t < n → I m None s.world.cpus s.world → I m None s.world.cpus (reweigh s t x).state.world

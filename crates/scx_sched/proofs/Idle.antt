@@ -14,14 +14,14 @@ use Rattle.scx_weights.specs.Limits as limits
 use Rattle.scx_sched_world.specs.declared.eject.Eject.{Eject}
 use Rattle.scx_sched_world.specs.Ids.{global, builtin_queue, parked_queue, local_on}
 use Rattle.scx_sched_world.specs.World as world
-use Rattle.scx_sched_world.specs.World.{WorldState, with_switch, task_at, is_throttled, running}
+use Rattle.scx_sched_world.specs.World.{WorldState, task_at, is_throttled, running}
 use Rattle.scx_sched_world.specs.Tasks.{after_local, local_len, brought, after_stop, started_at, after_switch, after_keep, after_tick, used_ms, after_leave, next_for}
 use Rattle.scx_sched_machine.specs.Steps.{State, Stepped, with_world, stays, one_after_other, is_ejected, is_by_linux, kicked}
 use Rattle.scx_sched_policy.specs.Policy.{program_of}
 use Rattle.scx_sched_machine.specs.Callbacks.{call_back, one_task}
 use Rattle.scx_sched_machine.specs.Filling.{fill}
 use Rattle.scx_sched_machine.specs.Parking.{park, throttled_front, park_next, clear, in_reach, supply}
-use Rattle.scx_sched_machine.specs.Cycle.{has_local, keeps_slice, supply_unless_kept, after_dispatch, asks_again, tries, after_stopping, switched, leave, started_if, start as run_front, kept, rest, swap, swap_or_rest, builtin_dispatch, builtin_fill, builtin_ask, builtin_cycle, start_or_cycle, picked, refilled, start_picked_or_cycle, give_up, pick, pick_or_rest, keep_or_pick, conclude, ask, seek, look, cycling, cycle, dispatch_called, makes_way, hears_idle, falls_idle, becomes_idle, concluded}
+use Rattle.scx_sched_machine.specs.Cycle.{has_local, keeps_slice, supply_unless_kept, after_dispatch, asks_again, tries, switched, leave, started_if, start as run_front, kept, rest, swap, swap_or_rest, builtin_dispatch, builtin_fill, builtin_ask, builtin_cycle, start_or_cycle, picked, refilled, start_picked_or_cycle, give_up, pick, pick_or_rest, keep_or_pick, conclude, ask, seek, look, cycling, cycle, dispatch_called, makes_way, hears_idle, falls_idle, becomes_idle, concluded}
 use Rattle.scx_sched_machine.specs.declared.events.Event.{Event}
 use Rattle.scx_sched_machine.specs.declared.events.Event.TheVariants.{Wake, Sleep, Tick, Clock, SetWeight, SetTaskWeight}
 use Rattle.scx_sched_machine.specs.declared.events.Refused.TheVariants.{UnknownCpu}
@@ -34,16 +34,15 @@ use Rattle.scx_sched.specs.Sim.{refusal, IsValid}
 use Rattle.scx_sched.proofs.Sound.{place_known}
 use Rattle.scx_sched.proofs.Pushes.{takes_queued}
 use Rattle.scx_sched.proofs.Seen.{next_seen, next_same}
-use Rattle.scx_sched.proofs.Blaming.{plain_on, honest_supply, honest_builtin_fill, honest_tries, honest_stopping, honest_park, way_plain, honest_look}
+use Rattle.scx_sched.proofs.Blaming.{plain_on, honest_supply, honest_builtin_fill, honest_tries, honest_leaves_cpu, honest_park, way_plain, honest_look}
 use Rattle.scx_sched.proofs.Clear.{IsClear, MayStart, tree_used_up}
-use Rattle.scx_sched.proofs.Ready.{tree_stopping}
 use Rattle.scx_sched.proofs.Supplying.{park_left, clear_from, empty_no_next, throttled_is, IsLeft, left_park_next, reach_fill, reach_park_left, supply_clears, builtin_clears}
 use Rattle.scx_sched.proofs.Marks.{KeepsMarks, Anywhere, kept_cycling, kept_local}
-use Rattle.scx_sched.proofs.Unchanged.{ruled_switch, ruled_cycling, same_linux}
-use Rattle.scx_sched.proofs.Skeleton.{IsKnown, once_for, keeps_stopping, keeps_running_on, keeps_switched}
+use Rattle.scx_sched.proofs.Unchanged.{ruled_cycling, same_linux}
+use Rattle.scx_sched.proofs.Skeleton.{IsKnown, once_for, keeps_running_on, keeps_switched}
 use Rattle.scx_sched.proofs.Cycles.{not_kept, MayStartUnlessKept, some_local, no_local, keeps_park, keeps_park_left, keeps_park_next, keeps_fill, keeps_supply, keeps_dispatched, keeps_tries, tries_clear, clear_now, keeps_leave, ready_left, keeps_builtin_fill, keeps_dispatch_called}
 use Rattle.scx_sched.proofs.Fine.{fine_steps}
-use Rattle.scx_sched.proofs.Events.{cpus_used, IsKeptByUse, IsKeptByTick, fine_inside, fine_events, known_running, fine_ticked, keeps_stop_switch}
+use Rattle.scx_sched.proofs.Events.{cpus_used, IsKeptByUse, IsKeptByTick, fine_inside, fine_events, known_running, fine_ticked, keeps_leaves_cpu}
 use Rattle.scx_sched.proofs.Firsts.{no_front_is_empty}
 use Rattle.scx_sched.proofs.Lengths.{len_set}
 use Rattle.scx_sched.proofs.Leaving.{LeavesPlainly, out_is_plain, IsOut, local_leave}
@@ -214,7 +213,7 @@ module _ (n e : ℕ) (c : ℕ) where
       r = one_after_other (park_next (len_of s.world.queues builtin_queue) s builtin_queue c) (fill p builtin_queue c)
 
       x : IsFine n e m None on p.world
-      x = keeps_park_next n (IsFine n e) (fine_inside n e) m on (len_of s.world.queues builtin_queue) s builtin_queue c refl h
+      x = keeps_park_next n (IsFine n e) (fine_inside n e) m on (len_of s.world.queues builtin_queue) s builtin_queue c refl l h
 
       global_stays : IsLeft global s.world p.world
       global_stays = left_park_next (len_of s.world.queues builtin_queue) global s builtin_queue c refl refl
@@ -388,22 +387,18 @@ heard_plain s c t plain = ap (λ b. if (b && is_some (program_of s.policy callba
 
 -- the law, of plain rules
 pub tick_leaves : (n e : ℕ) (s : State) (c : ℕ) → is_by_linux s ≡ false → c < length s.world.cpus → IsFine n e e None s.world.cpus s.world → running (tick s c).state.world c ≡ None → LeavesNothing (tick s c).state.world c
-unfolding tick tick_idle count_down use_up throttle leaves_cpu expire
+unfolding tick tick_idle count_down use_up throttle expire
 tick_leaves n e s c plain l h idle = go (running s.world c) refl (ap (λ o. is_none o) idle)
   where
     throttled_leaves : (v : State) (t : ℕ) → is_by_linux v ≡ false → t < n → c < length v.world.cpus → limits.is_throttled v.world.tree t ≡ true → IsFine n (e + 1) e (Some t) (set v.world.cpus c None) (after_stop v.world c t) → LeavesIfIdle c (throttle v c t).state.world
     throttled_leaves v t still within m up x =
         let on = set v.world.cpus c None in
         let l' : c < length on = rw (length-set v.world.cpus c None) m in
-        let off = with_world v (after_stop (with_switch v.world c) c t) in
-        let there = keeps_stop_switch n (IsFine n (e + 1)) (fine_events n (e + 1)) e on v.world c t x in
-        let begun = ruled_switch v.world c in
-        let y = after_stopping off c t 1 in
-        let r = y.state in
-        let put_by = plain_on r (park r t) (honest_park r t) (plain_on off y (honest_stopping off c t 1) (same_linux v.world off.world begun.3 begun.1 ∙ still)) in
-        let tree = tree_stopping n (IsFine n (e + 1)) (fine_steps n (e + 1)) (fine_inside n (e + 1)).sound c e (Some t) on off c t 1 l' there ∙ begun.2 in
+        let r = (leaves_cpu v c t 1).state in
+        let left = honest_leaves_cpu v c t 1 in
+        let put_by = plain_on r (park r t) (honest_park r t) (plain_on v (leaves_cpu v c t 1) left still) in
         cycle_leaves n (e + 1) c (e + 1) on (park r t).state None true put_by l' tt (get_or-set_same v.world.cpus c None None m)
-        (keeps_park n (IsFine n (e + 1)) (fine_inside n (e + 1)) (e + 1) on r t within (ap (λ k. limits.is_throttled k t) tree ∙ up) (keeps_stopping n (IsFine n (e + 1)) (fine_steps n (e + 1)) e (Some t) on off c t 1 l' there))
+        (keeps_park n (IsFine n (e + 1)) (fine_inside n (e + 1)) (e + 1) on r t within (ap (λ k. limits.is_throttled k t) left.tree ∙ up) (keeps_leaves_cpu n (IsFine n (e + 1)) (fine_events n (e + 1)) e on v c t 1 l' x))
 
     go : (o : Option ℕ) → running s.world c ≡ o → LeavesIfIdle c (tick_of o s c).state.world
     go None at = subst (λ b. LeavesIfIdle c (if b then stays s else cycle s c None false).state.world) (sym plain) (cycle_leaves n e c e s.world.cpus s None false plain l tt at h)

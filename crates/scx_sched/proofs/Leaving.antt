@@ -1,6 +1,6 @@
 -- Once the policy is ejected no callback of it runs, and a task that leaves its processor takes nobody out
 -- of a local queue.
-use Rattle.std.proofs.Common.{◌≡◌, ℕ, ◌<◌, Bool, true, false, nat_lt, ◌&&◌, if◌then◌else◌, length, Option, Some, None, is_some, is_none, refl, sym, ap, subst, arith}
+use Rattle.std.proofs.Common.{◌≡◌, ℕ, ◌<◌, Bool, true, false, nat_lt, ◌&&◌, if◌then◌else◌, length, Option, Some, None, is_some, is_none, refl, sym, ap, ◌∙◌, subst, arith}
 use Rattle.scx_dsq.specs.declared.entries.Rank.TheVariants.{Vtime}
 use Rattle.scx_isa_semantics.specs.declared.callbacks.Callback.{Callback}
 use Rattle.scx_isa_semantics.specs.declared.callbacks.Callback.TheVariants as callback
@@ -9,16 +9,17 @@ use Rattle.scx_vm.specs.declared.arguments.Args.{Args}
 use Rattle.scx_sched_world.specs.declared.eject.Eject.{Eject}
 use Rattle.scx_sched_world.specs.Ids.{builtin_queue, local_on}
 use Rattle.scx_sched_world.specs.World.{WorldState, are_linux, at_callback, quiet}
-use Rattle.scx_sched_world.specs.Tasks.{local_len, to_front, after_stop}
+use Rattle.scx_sched_world.specs.Tasks.{local_len, to_front}
 use Rattle.scx_sched_world.specs.Ejecting.{builtin_vtime, put_builtin, after_charge}
 use Rattle.scx_sched_policy.specs.Policy.{program_of}
-use Rattle.scx_sched_machine.specs.Steps.{State, Stepped, with_world, stays, one_after_other, is_ejected, is_by_linux}
+use Rattle.scx_sched_machine.specs.Steps.{State, Stepped, with_world, one_after_other, is_ejected, is_by_linux}
 use Rattle.scx_sched_machine.specs.Ejecting.{ejected_for}
 use Rattle.scx_sched_machine.specs.Callbacks.{call_ending, calls_of, after_callback, cause_of, unless_ejected, acting, call_back, task_and_number}
 use Rattle.scx_sched_machine.specs.Put.{enters, enqueue_choice, enters_builtin, comes_in, put}
-use Rattle.scx_sched_machine.specs.Cycle.{keeps_slice, stopping_called, after_stopping, put_back, leave}
+use Rattle.scx_sched_machine.specs.Cycle.{keeps_slice, put_back, leave}
 use Rattle.scx_sched_machine.proofs.Choices.{keeps_if}
 use Rattle.scx_sched.proofs.Lengths.{len_pushed}
+use Rattle.scx_sched.proofs.Stepwise.{IsSwitch, Silent, Called, off_cpu, by_stop}
 
 -- ---- no callback runs
 
@@ -44,14 +45,6 @@ enqueue_out s a t c out = go (acting s callback.Enqueue) (acting_out s callback.
     go : (p : Option VerifiedProgram) → p ≡ None → (run_back p s callback.Enqueue a t c).state ≡ with_world s (quiet (at_callback s.world callback.Enqueue t c))
     go None e = refl
     go (Some p) e = absurd (cc)
-
-stopping_out : (s : State) (c t x : ℕ) → is_ejected s ≡ true → after_stopping s c t x ≡ stays (with_world s (after_charge s.world t))
-unfolding after_stopping
-stopping_out s c t x out = go (is_ejected s) out
-  where
-    go : (b : Bool) → b ≡ true → (if b then stays (with_world s (after_charge s.world t)) else stopping_called s c t x) ≡ stays (with_world s (after_charge s.world t))
-    go true e = refl
-    go false e = absurd (cc)
 
 -- ---- plain rules
 
@@ -112,8 +105,11 @@ module _ (c : ℕ) where
   pub local_leave : (s : State) (d : ℕ) (p : Option ℕ) → IsOut p s → HasLocal c s.world → HasLocal c (leave s d p).state.world
   unfolding leave
   local_leave s d None out h = h
-  local_leave s d (Some t) out h =
-      let off = with_world s (after_stop s.world d t) in
-      let v = with_world off (after_charge off.world t) in
-      subst (λ (x : Stepped). HasLocal c (put_back x.state d t).state.world) (sym (stopping_out off d t 1 out))
-      (subst (λ (x : Stepped). HasLocal c x.state.world) (sym (put_back_plain v d t (out_is_plain v out))) (local_put v t d 0 out h))
+  local_leave s d (Some t) out h = by_stop (λ (r : Stepped). HasLocal c (put_back r.state d t).state.world) off d t 1 each
+    where
+      off : State
+      off = off_cpu s d t
+
+      each : (r : Stepped) → IsSwitch off t d (after_charge off.world t) r → HasLocal c (put_back r.state d t).state.world
+      each _ (Silent gone) = let v = with_world off (after_charge off.world t) in subst (λ (x : Stepped). HasLocal c x.state.world) (sym (put_back_plain v d t (out_is_plain v out))) (local_put v t d 0 out h)
+      each _ (Called b a force is) = let bad : true ≡ false = sym out ∙ force in absurd (cc)

@@ -1,19 +1,20 @@
 -- Who may run again is let go, one after another: each small step keeps what whole walks keep.
-use Rattle.std.proofs.Common.{◌≡◌, ℕ, zero, suc, ◌<◌, true, false, ◌&&◌, ◌||◌, List, Option, Some, None, is_some, option_map, refl, ap, ◌∙◌, arith}
+use Rattle.std.proofs.Common.{◌≡◌, ℕ, ◌<◌, true, false, ◌&&◌, ◌||◌, List, Option, Some, None, is_some, option_map, refl, ap, ◌∙◌, arith}
 use Rattle.scx_dsq.specs.declared.entries.Entry.{Entry}
-use Rattle.scx_dsq.specs.Queues.{QueueState, task_count, entry_of, queue_of, len_of, front_of, behind_of}
+use Rattle.scx_dsq.specs.Queues.{QueueState, task_count, entry_of, queue_of, front_of, behind_of}
 use Rattle.scx_sched_world.specs.Ids.{parked_queue}
 use Rattle.scx_sched_world.proofs.Fronts.{AtParked, at_front, at_behind, behind_in}
 use Rattle.scx_sched_tasks.specs.Waits.{time_since}
-use Rattle.scx_sched_world.specs.World.{WorldState, task_at, waits_in, wait, is_idle, is_throttled}
+use Rattle.scx_sched_world.specs.World.{WorldState, task_at, waits_in, wait, is_idle}
 use Rattle.scx_sched_world.specs.Tasks.{let_go}
 use Rattle.scx_sched_machine.specs.Put.{put}
-use Rattle.scx_sched_machine.specs.Steps.{State, Stepped, with_world, one_after_other, is_by_linux, kicked, kicked_if_idle}
-use Rattle.scx_sched_machine.specs.Parking.{let_go_one, let_go_from, let_all_go}
+use Rattle.scx_sched_machine.specs.Steps.{State, Stepped, with_world, is_by_linux, kicked, kicked_if_idle}
+use Rattle.scx_sched_machine.specs.Parking.{let_go_one, let_all_go}
 use Rattle.scx_sched_machine.proofs.Choices.{keeps_if}
 use Rattle.scx_sched.proofs.Waiting.{removed_other}
 use Rattle.scx_sched.proofs.Sound.{waits_known}
 use Rattle.scx_sched.proofs.Staying.{stay_put}
+use Rattle.scx_sched.proofs.Stepwise.{IsOneLetGo, parked_let_go}
 use Rattle.scx_sched.proofs.Lasting.{AreAsLong, long_here, long_then, long_kick, long_let_go, long_put}
 use Rattle.scx_sched.proofs.Skeleton.{keeps_kicked_if_idle}
 use Rattle.scx_sched.proofs.Cycles.{IsKeptInside, keeps_put_at}
@@ -62,21 +63,6 @@ module _ (n : ℕ) (I : ℕ → Option ℕ → List (Option ℕ) → WorldState 
   at_next s t here h None e = tt
   at_next s t here h (Some u) e = let b = behind_in s.world.queues parked_queue t u here e in one_leaves s t u here b.there b.other h
 
-  keeps_let_go_from : (j : ℕ) (s : State) (at : Option ℕ) → AtParked s.world.queues at → I m None on s.world → I m None on (let_go_from j s at).state.world
-  unfolding let_go_from
-  keeps_let_go_from zero s at here h = h
-  keeps_let_go_from (suc j) s None here h = h
-  keeps_let_go_from (suc j) s (Some t) here h =
-      let next = behind_of s.world.queues t in
-      let r = let_go_one s t in
-      keeps_if (λ (x : Stepped). I m None on x.state.world) (is_throttled s.world t) (let_go_from j s next) (one_after_other r (let_go_from j r.state next)) (keeps_let_go_from j s next (at_behind s.world.queues t next here refl) h)
-      (keeps_let_go_from j r.state next (at_next s t here h next refl) (keeps_let_go_one s t here h))
-
-  -- all who may run again
-  pub keeps_let_all_go : (s : State) → I m None on s.world → I m None on (let_all_go s).state.world
-  unfolding let_all_go
-  keeps_let_all_go s h = keeps_let_go_from (len_of s.world.queues parked_queue) s (front_of s.world.queues parked_queue) (at_front s.world.queues (front_of s.world.queues parked_queue) refl) h
-
   -- ---- how long each has waited
 
   -- who is parked has no wait
@@ -95,17 +81,27 @@ module _ (n : ℕ) (I : ℕ → Option ℕ → List (Option ℕ) → WorldState 
       let x = long_put s.world (with_world s (let_go s.world t)) t c 0 (long_let_go s.world t (parked_waits s t here h)) in
       keeps_if (λ (v : State). AreAsLong s.world v.world) (is_by_linux r && is_idle r.world c) (kicked r c) r (long_kick s.world r.world c x) x
 
-  long_let_go_from : (j : ℕ) (s : State) (at : Option ℕ) → AtParked s.world.queues at → I m None on s.world → AreAsLong s.world (let_go_from j s at).state.world
-  unfolding let_go_from
-  long_let_go_from zero s at here h = long_here s.world
-  long_let_go_from (suc j) s None here h = long_here s.world
-  long_let_go_from (suc j) s (Some t) here h =
-      let next = behind_of s.world.queues t in
-      let r = let_go_one s t in
-      keeps_if (λ (x : Stepped). AreAsLong s.world x.state.world) (is_throttled s.world t) (let_go_from j s next) (one_after_other r (let_go_from j r.state next)) (long_let_go_from j s next (at_behind s.world.queues t next here refl) h)
-      (long_then s.world r.state.world (let_go_from j r.state next).state.world (long_let_go_one s t here h) (long_let_go_from j r.state next (at_next s t here h next refl) (keeps_let_go_one s t here h)))
+  -- ---- all who may run again
 
-  -- all who may run again
+  -- the fact stays, and each has waited as long
+  abbrev StaysAsLong : State → Stepped → Type 0
+  StaysAsLong s r = I m None on r.state.world × AreAsLong s.world r.state.world
+
+  one_let_go : IsOneLetGo (λ s. I m None on s.world) (λ s o. AtParked s.world.queues o) StaysAsLong
+  one_let_go = record {
+    none = λ s h. (h, long_here s.world);
+    joined = λ s a r x y. (y.0, long_then s.world a.state.world r.state.world x.1 y.1);
+    passed = λ s t here. at_behind s.world.queues t (behind_of s.world.queues t) here refl;
+    one = λ s t here h. let x = keeps_let_go_one s t here h in ((x, long_let_go_one s t here h), x, at_next s t here h (behind_of s.world.queues t) refl);
+  }
+
+  all_let_go : (s : State) → I m None on s.world → StaysAsLong s (let_all_go s)
+  all_let_go s h = parked_let_go (λ s. I m None on s.world) (λ s o. AtParked s.world.queues o) StaysAsLong one_let_go s (at_front s.world.queues (front_of s.world.queues parked_queue) refl) h
+
+  -- the fact stays
+  pub keeps_let_all_go : (s : State) → I m None on s.world → I m None on (let_all_go s).state.world
+  keeps_let_all_go s h = (all_let_go s h).0
+
+  -- each has waited as long
   pub long_let_all_go : (s : State) → I m None on s.world → AreAsLong s.world (let_all_go s).state.world
-  unfolding let_all_go
-  long_let_all_go s h = long_let_go_from (len_of s.world.queues parked_queue) s (front_of s.world.queues parked_queue) (at_front s.world.queues (front_of s.world.queues parked_queue) refl) h
+  long_let_all_go s h = (all_let_go s h).1

@@ -21,6 +21,7 @@ pub mod Lengths
 pub mod Calm
 pub mod Clear
 pub mod Supplying
+pub mod Stepwise
 pub mod Leaving
 pub mod Blaming
 pub mod Placing

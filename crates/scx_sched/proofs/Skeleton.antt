@@ -12,18 +12,19 @@ use Rattle.scx_sched_world.specs.World as world
 use Rattle.scx_sched_world.specs.World.{WorldState, with_task, switch_at, with_switch, with_waker, task_at, is_idle, with_timer_at_hand, may_run}
 use Rattle.scx_sched_world.specs.Tasks.{with_home, homed, after_switch, for_cpu}
 use Rattle.scx_sched_world.specs.Helpers.{alarm_at, due_now}
-use Rattle.scx_sched_world.specs.Ejecting.{put_out, after_charge, after_catch_up}
+use Rattle.scx_sched_world.specs.Ejecting.{after_charge, after_catch_up}
 use Rattle.scx_sched_machine.specs.Steps.{State, Stepped, stays, with_world, is_ejected, is_by_linux, kicked, kicked_if_idle}
 use Rattle.scx_sched_machine.specs.Ejecting.{eject}
 use Rattle.scx_sched_machine.specs.Callbacks.{call_ending, call_back, call_by_linux, one_task, task_and_number}
 use Rattle.scx_sched_world.specs.declared.call.Insert.{Insert}
 use Rattle.scx_sched_machine.specs.Put.{enters, enqueue_choice, enters_builtin, comes_in, put}
-use Rattle.scx_sched_machine.specs.Cycle.{stopping_called, after_stopping, switched, after_running}
+use Rattle.scx_sched_machine.specs.Cycle.{switched, after_running}
 use Rattle.scx_sched_machine.specs.Events.{insert_or_put}
 use Rattle.scx_sched_machine.proofs.Choices.{keeps_if}
 use Rattle.scx_sched.specs.Kept.{IsKeptBySteps, IsWanted, ForAny, Nowhere, Inserted}
 use Rattle.scx_sched.specs.Allowed.{MayGo}
 use Rattle.scx_sched.proofs.Placing.{MayPut}
+use Rattle.scx_sched.proofs.Stepwise.{Stays, stays_walked, KeepsCalls, IsSwitch, Silent, Called, off_cpu, goes_off, by_stop}
 use Rattle.scx_sched.proofs.Queries.{KeepsCallbacks, kept_called, kept_eject, kept_call_back, kept_call_by_linux}
 
 -- the task before, if there is one, is a task that there is
@@ -76,16 +77,20 @@ module _ (n : ℕ) (I : ℕ → Option ℕ → List (Option ℕ) → WorldState 
     pub keeps_call_back : (s : State) (b : Callback) (a : Args) (t c : ℕ) → c < length on → I m hand on s.world → I m hand on (call_back s b a t c).state.world
     keeps_call_back s b a t c l h = kept_call_back (I m hand on) keeps_callbacks s b a t c (k.begun m hand on s.world b t c l h)
 
-    pub keeps_stopping : (s : State) (c t x : ℕ) → c < length on → I m hand on s.world → I (m + 1) hand on (after_stopping s c t x).state.world
-    unfolding after_stopping
-    keeps_stopping s c t x l h = go (is_ejected s) refl
-      where
-        r : Stepped
-        r = stopping_called s c t x
+    -- so what the policy is told of that processor can be walked over
+    pub keeps_calls : (c : ℕ) → c < length on → KeepsCalls (Stays (I m hand on)) c
+    keeps_calls c l = record { steps = stays_walked (I m hand on); called = λ s b a t told h. keeps_call_back s b a t c l h }
 
-        go : (b : Bool) → is_ejected s ≡ b → I (m + 1) hand on (if b then stays (with_world s (after_charge s.world t)) else r).state.world
-        go true out = k.charged m hand on s.world t out h
-        go false force = k.more m hand on r.state.world (keeps_call_back s _ (task_and_number t x) t c l h)
+    -- a task leaves its processor, and the policy hears of it
+    pub keeps_goes_off : (s : State) (c t x : ℕ) → c < length on → I m hand on (off_cpu s c t).world → I (m + 1) hand on (goes_off s c t x).state.world
+    keeps_goes_off s c t x l h = by_stop (λ (r : Stepped). I (m + 1) hand on r.state.world) off c t x each
+      where
+        off : State
+        off = off_cpu s c t
+
+        each : (r : Stepped) → IsSwitch off t c (after_charge off.world t) r → I (m + 1) hand on r.state.world
+        each _ (Silent out) = k.charged m hand on off.world t out h
+        each _ (Called b a force is) = k.more m hand on (call_back off b a t c).state.world (keeps_call_back off b a t c l h)
 
     pub keeps_running_on : (s : State) (c t : ℕ) → c < length on → I m hand on s.world → I m hand on (after_running s c t).state.world
     unfolding after_running

@@ -21,7 +21,8 @@ use Rattle.scx_sched.proofs.Queries.{KeepsQueries, off_queues, kept_called, kept
 abbrev pub IsAsBefore : WorldState → WorldState → Type 0
 IsAsBefore v w = (w.clock ≡ v.clock) × (w.ejected ≡ v.ejected) × (w.cycling ≡ v.cycling) × (w.tree ≡ v.tree) × (w.rules ≡ v.rules) × (w.passing ≡ v.passing)
 
-as_before : (w : WorldState) → IsAsBefore w w
+-- a world is as it was before a change that isn't one of these
+pub as_before : (w : WorldState) → IsAsBefore w w
 as_before w = (refl, refl, refl, refl, refl, refl)
 
 -- nor does any small change of a query

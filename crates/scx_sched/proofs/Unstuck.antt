@@ -13,22 +13,20 @@ use Rattle.scx_sched_world.specs.declared.faults.Fault.{Fault}
 use Rattle.scx_sched_world.specs.declared.faults.Fault.TheVariants.{Stuck}
 use Rattle.scx_sched_world.specs.World.{WorldState}
 use Rattle.scx_sched_world.specs.Ejecting.{eject_of}
-use Rattle.scx_sched_world.specs.Tasks.{later, begun_periods}
+use Rattle.scx_sched_world.specs.Tasks.{later}
 use Rattle.scx_sched_world.specs.Helpers.{first_cause, with_cause}
 use Rattle.scx_sched_machine.specs.declared.events.Event.{Event}
 use Rattle.scx_sched_machine.specs.declared.events.Event.TheVariants.{Wake, Sleep, Tick, Clock, SetWeight, SetTaskWeight}
-use Rattle.scx_sched_machine.specs.Steps.{State, Stepped, CallMade, with_world, stays, one_after_other}
+use Rattle.scx_sched_machine.specs.Steps.{State, Stepped, CallMade, stays, one_after_other}
 use Rattle.scx_sched_machine.specs.Ejecting.{eject}
-use Rattle.scx_sched_machine.specs.Parking.{let_all_go}
-use Rattle.scx_sched_machine.specs.Firing.{fire_all}
-use Rattle.scx_sched_machine.specs.Events.{refusal, overdue, eject_if_stalled, clock, event_step, watch, timers_and_watchdog}
+use Rattle.scx_sched_machine.specs.Events.{refusal, overdue, eject_if_stalled, event_step}
 use Rattle.scx_sched_machine.specs.Rounds.{with_rounds}
 use Rattle.scx_sched_machine.specs.Callbacks.{call_ending, AreAnswered}
 use Rattle.scx_sched.specs.Causes.{HasFault, Of_helper, Of_answer, HasReason, IsNeverStuck}
 use Rattle.scx_sched.specs.Decided.{tree_after}
 use Rattle.scx_sched.proofs.Unchanged.{eject_sets}
 use Rattle.scx_sched.proofs.Events.{IsFineNow, IsTaken, Wakes, Sleeps, Ticks, Clocks, Weighs, is_taken, WeighsTask}
-use Rattle.scx_sched.proofs.Blaming.{IsHonest, state_with_tree, same_eject, honest_let_all_go, honest_joined, honest_stays, honest_with_rounds, no_rounds, honest_fire_all}
+use Rattle.scx_sched.proofs.Blaming.{IsHonest, state_with_tree, same_eject, no_rounds, begun_ms, clocked, clock_watched, honest_unwatched}
 use Rattle.scx_sched.proofs.Deciding.{IsHonestEvent, wake_is_honest, sleep_is_honest, tick_is_honest, weight_is_honest, task_weight_is_honest}
 use Rattle.scx_sched.proofs.Causing.{last_answered, computes, has_reason}
 use Rattle.scx_sched.proofs.Queries.{KeepsQueries, off_queues, kept_called, kept_query}
@@ -91,26 +89,17 @@ apart_causes : (t k n : ℕ) → cause.Stall t k ≡ cause.Fault Stuck n → ⊥
 apart_causes t k n e = absurd (cc)
 
 clock_unstuck : (s : State) → AreAnswered (event_step s Clock).calls → IsNeverStuck s.world → IsNeverStuck (event_step s Clock).state.world
-unfolding clock timers_and_watchdog watch
-clock_unstuck s answered before = go (overdue f.state) answered
+clock_unstuck s answered before = subst (λ (x : Stepped). AreAnswered (with_rounds x).calls → IsNeverStuck (with_rounds x).state.world) (sym (clock_watched s)) (go (overdue r.state)) answered
   where
-    v : State
-    v = with_world s (begun_periods (later s.world))
-
     r : Stepped
-    r = let_all_go v
+    r = clocked s
 
-    f : Stepped
-    f = fire_all r.state
-
-    go : (o : Option ℕ) → AreAnswered (with_rounds (one_after_other r (one_after_other f (eject_if_stalled o f.state)))).calls → IsNeverStuck (with_rounds (one_after_other r (one_after_other f (eject_if_stalled o f.state)))).state.world
-    go None all n out =
-        let y = one_after_other f (stays f.state) in
-        never_stuck v (with_rounds (one_after_other r y)) (honest_with_rounds v (one_after_other r y) (honest_joined v r y (honest_let_all_go v) (honest_joined r.state f (stays f.state) (honest_fire_all r.state) (honest_stays f.state)))) all before n out
+    go : (o : Option ℕ) → AreAnswered (with_rounds (one_after_other r (eject_if_stalled o r.state))).calls → IsNeverStuck (with_rounds (one_after_other r (eject_if_stalled o r.state))).state.world
+    go None all n out = never_stuck (begun_ms s) (with_rounds (one_after_other r (stays r.state))) (honest_unwatched s) all before n out
     go (Some t) all n out =
-        let y = cause.Stall t f.state.world.clock in
-        let same = no_rounds (one_after_other r (one_after_other f (eject f.state y))) y (eject_sets f.state y).1 in
-        apart_causes t f.state.world.clock n (same_eject (eject f.state y).state.world.ejected y (cause.Fault Stuck n) (eject_sets f.state y).1 (subst (λ (x : Stepped). x.state.world.ejected ≡ Some (cause.Fault Stuck n)) same out))
+        let y = cause.Stall t r.state.world.clock in
+        let same = no_rounds (one_after_other r (eject r.state y)) y (eject_sets r.state y).1 in
+        apart_causes t r.state.world.clock n (same_eject (eject r.state y).state.world.ejected y (cause.Fault Stuck n) (eject_sets r.state y).1 (subst (λ (x : Stepped). x.state.world.ejected ≡ Some (cause.Fault Stuck n)) same out))
 
 -- no accepted event whose calls are answered ejects a policy for a callback that was stuck
 pub unstuck_step : (s : State) (n : ℕ) (v : Event) → refusal s v ≡ None → IsFineNow (length s.world.tasks) n n s.world → AreAnswered (event_step s v).calls → IsNeverStuck s.world → IsNeverStuck (event_step s v).state.world
