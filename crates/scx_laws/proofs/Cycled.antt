@@ -45,7 +45,7 @@ use Rattle.scx_sched.proofs.Lengths.{len_set}
 use Rattle.scx_sched.proofs.Sound.{place_known}
 use Rattle.scx_laws.specs.Bounds.{longest_wait}
 use Rattle.scx_laws.proofs.Plain.{homed_plain, switched_plain, told_plain, kept_plain, busy_plain, picked_plain, give_up_plain, cycling_plain, concluded_plain}
-use Rattle.scx_laws.proofs.Walking.{IsSwitch, Silent, Called, by_stop, by_start}
+use Rattle.scx_sched.proofs.Stepwise.{IsSwitch, Silent, Called, by_stop, by_start}
 use Rattle.scx_laws.proofs.InLine.{IsInLine, IsKeptInLine, line_end, world_plain, nothing_told, line_at, put_lined, dispatch_lined, keeps_line}
 use Rattle.scx_laws.proofs.Overtaking.{known_there}
 use Rattle.scx_laws.proofs.Bounding.{IsBounded, bounded_left, len_gone}
@@ -265,7 +265,7 @@ module _ (slice n m : ℕ) where
   -- so it is once a task has left the processor
   pub off_is : (P : State → Type 0) (s : State) (r : ℕ) → IsGoing slice n m s → ((b : Callback) → P (off_cpu s r b)) → (v : Stepped) → IsSwitch (with_world s (after_stop s.world 0 r)) r 0 (after_charge (after_stop s.world 0 r) r) v → P v.state
   off_is P s r h each _ (Silent out) = let bad : false ≡ true = sym (ap (λ (o : Option Eject). is_some o) h.turning.force) ∙ out in absurd (cc)
-  off_is P s r h each _ (Called b a is) = subst P (sym (nothing_told slice (with_world s (after_stop s.world 0 r)) b a r 0 is h.lined.0)) (each b)
+  off_is P s r h each _ (Called b a force is) = subst P (sym (nothing_told slice (with_world s (after_stop s.world 0 r)) b a r 0 is h.lined.0)) (each b)
 
   -- and then it is put
   left_from : (s : State) (r : ℕ) (b : Callback) → longest_wait n slice ≤ m → running s.world 0 ≡ Some r → IsGoing slice n m s → IsLeft s (put_back (off_cpu s r b) 0 r).state
@@ -369,7 +369,7 @@ module _ (slice n m : ℕ) where
 
           told : (v : Stepped) → IsSwitch u x 0 (after_catch_up u.world x) v → IsAtWork slice n m v.state
           told _ (Silent out) = let bad : false ≡ true = sym (ap (λ (o : Option Eject). is_some o) h.turning.force) ∙ out in absurd (cc)
-          told _ (Called b a y) = subst (IsAtWork slice n m) (sym (nothing_told slice u b a x 0 y h.lined.0)) (works b)
+          told _ (Called b a force y) = subst (IsAtWork slice n m) (sym (nothing_told slice u b a x 0 y h.lined.0)) (works b)
 
       at_front : (x : ℕ) → front_of s.world.queues (local_on 0) ≡ Some x → (o : Option Entry) → entry_of s.world.queues x ≡ o → option_map (λ (e : Entry). e.queue) o ≡ Some (local_on 0) → IsAtWork slice n m (started_if (Some x) s 0).state
       at_front x front None is at = absurd (cc)

@@ -48,7 +48,8 @@ use Rattle.scx_laws.specs.Serving.{after_serving}
 use Rattle.scx_laws.specs.Lines.{to_line, asked_for, ChoosesIdle, MayChoose, IsLine, IsStall}
 use Rattle.scx_sched_machine.specs.Events.{insert_or_put}
 use Rattle.scx_laws.proofs.Plain.{kicked_plain}
-use Rattle.scx_laws.proofs.Walking.{IsOfSwitch, Leaving, Coming, IsOneLetGo, parked_let_go, after_asking, IsSettled, IsKeptPlainly}
+use Rattle.scx_sched.proofs.Stepwise.{IsOfSwitch, Leaving, Coming, IsOneLetGo, parked_let_go}
+use Rattle.scx_laws.proofs.Walking.{after_asking, IsSettled, IsKeptPlainly}
 use Rattle.scx_laws.proofs.Choosing.{chosen_there, idle_end, answered, asked_so}
 
 -- ---- the world of such a policy

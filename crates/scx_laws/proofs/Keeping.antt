@@ -35,7 +35,8 @@ use Rattle.scx_sched_machine.proofs.Choices.{keeps_if}
 use Rattle.scx_sched.proofs.Seen.{next_seen}
 use Rattle.scx_sched.proofs.Unchanged.{eject_sets}
 use Rattle.scx_laws.proofs.Choosing.{idle_end}
-use Rattle.scx_laws.proofs.Walking.{IsOneLetGo, parked_let_go, after_asking, IsSettled, IsKeptPlainly}
+use Rattle.scx_sched.proofs.Stepwise.{IsOneLetGo, parked_let_go}
+use Rattle.scx_laws.proofs.Walking.{after_asking, IsSettled, IsKeptPlainly}
 use Rattle.scx_laws.proofs.InLine.{IsKeptInLine, end_of, line_end, put_lined, put_out_of_force, dispatch_lined, nothing_called, out_acts, nothing_told, asking, by_asked, line_let, let_go_plain, line_let_one, keeps_line}
 
 -- the task that fills a local queue is the first one that may

@@ -30,7 +30,7 @@ use Rattle.scx_sched.proofs.Skeleton.{IsKnown, keeps_kicked, keeps_switched}
 use Rattle.scx_sched.proofs.Sound.{left_place, popped_other, removed_place, in_known, place_known, sound_stopped, sound_started, sound_ran, sound_kept, sound_cycling, sound_ended}
 use Rattle.scx_sched.proofs.Waiting.{removed_other, renewed_since}
 use Rattle.scx_laws.specs.Telling.{Told, tell, since_stop, told_of, told}
-use Rattle.scx_laws.proofs.Walking.{IsSwitch, by_stop, by_start}
+use Rattle.scx_sched.proofs.Stepwise.{IsSwitch, by_stop, by_start}
 use Rattle.scx_laws.proofs.Noted.{same_told, one_note, no_cpu, cpu_set_here, cpu_set_other, tell_task}
 use Rattle.scx_laws.proofs.NotedCalls.{IsTold, TellsOf, told_nothing, told_both}
 use Rattle.scx_laws.proofs.NotedPuts.{sound_steps, Goes, Puts, told_plainly, puts_told, goes_stays, goes_call_by_linux, goes_stops, goes_runs, puts_enters, puts_put}

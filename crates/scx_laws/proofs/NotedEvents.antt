@@ -38,7 +38,7 @@ use Rattle.scx_sched.proofs.Sound.{place_known, sound_later, sound_timed, sound_
 use Rattle.scx_sched.proofs.Staying.{stay_put}
 use Rattle.scx_sched.proofs.Waiting.{removed_other}
 use Rattle.scx_laws.specs.Telling.{tell, told}
-use Rattle.scx_laws.proofs.Walking.{IsOneLetGo, parked_let_go}
+use Rattle.scx_sched.proofs.Stepwise.{IsOneLetGo, parked_let_go}
 use Rattle.scx_laws.proofs.Noted.{told_append, IsReady, ready_left}
 use Rattle.scx_laws.proofs.NotedCalls.{told_nothing, told_eject}
 use Rattle.scx_laws.proofs.NotedPuts.{sound_steps, Goes, Puts, told_plainly, goes_stays, goes_joined, goes_call_by_linux, goes_tells_dequeued, ready_on, puts_put}

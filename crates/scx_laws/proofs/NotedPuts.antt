@@ -31,7 +31,7 @@ use Rattle.scx_sched.proofs.Skeleton.{is_wanted, keeps_call_back, keeps_call_by_
 use Rattle.scx_sched.proofs.Sound.{inside, sound_query, sound_begun, sound_quiet, sound_cycling, sound_ended, sound_moves, sound_timed, sound_sets, sound_waker, sound_marks, sound_wants, sound_entered, sound_filled, sound_stopped, sound_started, sound_ran, sound_kept, sound_asleep, sound_put_out, sound_evict, sound_cut, sound_put_builtin, sound_overtaken, sound_charged}
 use Rattle.scx_sched.proofs.Waiting.{since_set, given_since}
 use Rattle.scx_laws.specs.Telling.{Told, tell, told}
-use Rattle.scx_laws.proofs.Walking.{IsSwitch, Silent, Called}
+use Rattle.scx_sched.proofs.Stepwise.{IsSwitch, Silent, Called}
 use Rattle.scx_laws.proofs.Noted.{told_append, same_told, tell_task, IsAs, as_marks, IsReady, ready_tell, comes}
 use Rattle.scx_laws.proofs.NotedCalls.{IsTold, TellsOf, told_nothing, told_joined, put_as, told_call_back, told_call_by_linux}
 
@@ -108,7 +108,7 @@ module _ (u n : ℕ) where
     -- a task has left its CPU, or come to one
     goes_switch : (s : State) (t c : ℕ) (out : WorldState) → c < length on → IsSound hand on n out → tell out u ≡ tell s.world u → IsSound hand on n s.world → (r : Stepped) → IsSwitch s t c out r → Goes hand on s r
     goes_switch s t c out l sound same h _ (Silent e) = (sound, told_nothing u hand s.world out same)
-    goes_switch s t c out l sound same h _ (Called b a is) = goes_call_back s b a t c l h
+    goes_switch s t c out l sound same h _ (Called b a force is) = goes_call_back s b a t c l h
 
     pub goes_stops : (s : State) (t c : ℕ) → c < length on → IsSound hand on n s.world → (r : Stepped) → IsSwitch s t c (after_charge s.world t) r → Goes hand on s r
     goes_stops s t c l h r is = goes_switch s t c (after_charge s.world t) l (sound_charged hand on n s.world t h) (tell_task s.world t u _ refl) h r is

@@ -21,7 +21,7 @@ use Rattle.scx_sched.proofs.Events.{is_task, custody_waits}
 use Rattle.scx_sched.proofs.Sound.{sound_sets, sound_stopped, sound_asleep, sound_removed, sound_left}
 use Rattle.scx_sched.proofs.Waiting.{removed_other}
 use Rattle.scx_laws.specs.Telling.{Told, tell, asleep, told_of, told_by, told}
-use Rattle.scx_laws.proofs.Walking.{IsSwitch, by_stop}
+use Rattle.scx_sched.proofs.Stepwise.{IsSwitch, by_stop}
 use Rattle.scx_laws.proofs.Noted.{told_append, told_another, same_tell, same_told, sleeps}
 use Rattle.scx_laws.proofs.NotedCalls.{IsTold}
 use Rattle.scx_laws.proofs.NotedPuts.{Goes, told_plainly, goes_call_by_linux, goes_stops, goes_tells_dequeued}

@@ -65,7 +65,7 @@ use Rattle.scx_laws.specs.Bounds.{ticks_of, longest_wait, HasTicks, HasTickAndCl
 use Rattle.scx_laws.proofs.Sound.{IsFirm, firm_first, firm_step, firm_after}
 use Rattle.scx_laws.proofs.Plain.{homed_plain, switch_plain, asleep_plain, dequeued_plain, heard_plain, chosen_plain, waker_plain, slept_plain, timers_plain, rounds_plain}
 use Rattle.scx_laws.proofs.Choosing.{chosen_there}
-use Rattle.scx_laws.proofs.Walking.{IsSwitch, by_stop}
+use Rattle.scx_sched.proofs.Stepwise.{IsSwitch, by_stop}
 use Rattle.scx_laws.proofs.InLine.{IsInLine, IsKeptInLine, line_end, world_plain, acts_not, nothing_called, zero_there, line_at, put_lined, keeps_line}
 use Rattle.scx_laws.proofs.Beginning.{line_begins}
 use Rattle.scx_laws.proofs.Leaving.{free_first, free_after}

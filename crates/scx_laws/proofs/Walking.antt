@@ -1,12 +1,11 @@
--- Steps that the laws walk over: a task leaves a processor or comes to one, and parked tasks are let go. One walk over the
--- events of a machine by plain rules: what each small step of it keeps, each event keeps.
+-- One walk over the events of a machine by plain rules: what each small step of it keeps, each event keeps.
 use Rattle.std.proofs.Common.{◌≡◌, ℕ, zero, suc, ◌<◌, ◌≤◌, Bool, true, false, ◌==◌, ◌&&◌, not, nat_le, if◌then◌else◌, [], ◌∷◌, List, length, Option, Some, None, refl, sym, subst, arith}
-use Rattle.scx_dsq.specs.Queues.{queue_of, len_of, front_of, behind_of}
+use Rattle.scx_dsq.specs.Queues.{queue_of, len_of, front_of}
 use Rattle.scx_isa_semantics.specs.declared.callbacks.Callback.{Callback}
 use Rattle.scx_isa_semantics.specs.declared.callbacks.Callback.TheVariants as callback
 use Rattle.scx_vm.specs.declared.arguments.Args.{Args}
 use Rattle.scx_sched_world.specs.declared.eject.Eject.TheVariants as cause
-use Rattle.scx_sched_world.specs.Ids.{policy_end, global, builtin_queue, parked_queue, local_on}
+use Rattle.scx_sched_world.specs.Ids.{policy_end, global, builtin_queue, local_on}
 use Rattle.scx_sched_world.specs.World.{WorldState, with_switch, task_at, is_throttled, running, cpu_of, is_idle, has_one_cpu}
 use Rattle.scx_sched_world.specs.Tasks.{to_front, next_for, after_wake, after_sleep, after_leave, after_stop, started_at, after_keep, after_tick, used_ms, later, begun_periods, after_reweigh, after_own_weight}
 use Rattle.scx_sched_world.specs.Ejecting.{after_charge, after_catch_up}
@@ -16,17 +15,18 @@ use Rattle.scx_sched_machine.specs.declared.events.Event.TheVariants.{Wake, Slee
 use Rattle.scx_sched_machine.specs.declared.events.Refused.{Refused}
 use Rattle.scx_sched_machine.specs.Steps.{State, Stepped, with_world, stays, one_after_other, is_ejected, is_by_linux, kicked_if_idle}
 use Rattle.scx_sched_machine.specs.Ejecting.{eject}
-use Rattle.scx_sched_machine.specs.Callbacks.{acting, call_back, answered_by, noted_by, one_task, task_cpu_and_0, task_and_number, cpu_and_task}
+use Rattle.scx_sched_machine.specs.Callbacks.{acting, call_back, answered_by, noted_by, task_cpu_and_0, cpu_and_task}
 use Rattle.scx_sched_machine.specs.Custody.{is_in_custody}
 use Rattle.scx_sched_machine.specs.Put.{enters, put}
 use Rattle.scx_sched_machine.specs.Filling.{fill}
-use Rattle.scx_sched_machine.specs.Parking.{park, if_throttled, throttled_front, throttled_next, park_then, park_next, clear, in_reach, supply, let_go_one, let_go_from, let_all_go}
-use Rattle.scx_sched_machine.specs.Cycle.{has_local, keeps_slice, supply_unless_kept, told_of, dispatch_called, after_dispatch, asks_again, tries, stopping_called, after_stopping, after_running, put_back, leave, switched, started_if, start as begin, kept, rest, swap, swap_or_rest, builtin_dispatch, builtin_fill, builtin_ask, builtin_cycle, start_or_cycle, picked, refilled, start_picked_or_cycle, makes_way, pick, pick_or_rest, keep_or_pick, conclude, give_up, ask, seek, look, cycling, cycle}
+use Rattle.scx_sched_machine.specs.Parking.{park, if_throttled, throttled_front, throttled_next, park_then, park_next, clear, in_reach, supply, let_all_go}
+use Rattle.scx_sched_machine.specs.Cycle.{has_local, keeps_slice, supply_unless_kept, told_of, dispatch_called, after_dispatch, asks_again, tries, put_back, leave, switched, started_if, start as begin, kept, rest, swap, swap_or_rest, builtin_dispatch, builtin_fill, builtin_ask, builtin_cycle, start_or_cycle, picked, refilled, start_picked_or_cycle, makes_way, pick, pick_or_rest, keep_or_pick, conclude, give_up, ask, seek, look, cycling, cycle}
 use Rattle.scx_sched_machine.specs.Events.{target, insert_or_put, woken, wake_target, comes_to, told_runnable, settle, ask_target, settle_at_home, select, wake, falls_asleep, looks_after_sleep, leaves_cpu, leaves_queue, sleep_from_cpu, sleep_from_queue, sleep_from, sleep, throttle, ends_slices, expire, use_up, count_down, tick_idle, tick_of, tick, overdue, eject_if_stalled, watch, timers_and_watchdog, clock, reweigh_by_linux, reweigh, own_step, event_step}
 use Rattle.scx_sched_world.specs.World.{first_home}
 use Rattle.scx_sched_machine.proofs.Choices.{keeps_if}
 use Rattle.scx_sched.specs.Once.{IsSorted}
 use Rattle.scx_sched.specs.Sim.{SimState, stepped_if, refusal, after_event}
+use Rattle.scx_sched.proofs.Stepwise.{IsOfSwitch, IsSwitch, Silent, Called, by_stop, by_start}
 use Rattle.scx_laws.specs.Runs.{after_events}
 use Rattle.scx_laws.proofs.Plain.{homed_plain, switch_plain, asleep_plain, told_plain, dequeued_plain, heard_plain, busy_plain, switched_plain, picked_plain, kept_plain, give_up_plain, cycling_plain, concluded_plain, chosen_plain, waker_plain, slept_plain, timers_plain, rounds_plain}
 
@@ -34,61 +34,6 @@ use Rattle.scx_laws.proofs.Plain.{homed_plain, switch_plain, asleep_plain, told_
 pub record IsSettled (w : WorldState) : Type 0 where
   pub homes : (t : ℕ) → (task_at w t).prev_cpu < length w.cpus
   pub sorted : IsSorted w.queues
-
--- ---- on and off a processor
-
--- the callbacks of a task that leaves a processor or comes to one
-pub data IsOfSwitch : Callback → Type 0 where
-  Leaving : IsOfSwitch callback.Stopping
-  Coming : IsOfSwitch callback.Running
-
--- such a step: the built-in scheduler goes on in that world, or the policy is called for the task
-pub data IsSwitch (s : State) (t c : ℕ) (out : WorldState) : Stepped → Type 0 where
-  Silent : is_ejected s ≡ true → IsSwitch s t c out (stays (with_world s out))
-  Called : (b : Callback) (a : Args) → IsOfSwitch b → IsSwitch s t c out (call_back s b a t c)
-
--- so it is once a task has left its processor
-pub by_stop : (P : Stepped → Type 0) (s : State) (c t n : ℕ) → ((r : Stepped) → IsSwitch s t c (after_charge s.world t) r → P r) → P (after_stopping s c t n)
-unfolding after_stopping
-by_stop P s c t n each = go (is_ejected s) refl
-  where
-    go : (b : Bool) → is_ejected s ≡ b → P (if b then stays (with_world s (after_charge s.world t)) else stopping_called s c t n)
-    go true out = each _ (Silent out)
-    go false force = each _ (Called callback.Stopping (task_and_number t n) Leaving)
-
--- and once one has come to it
-pub by_start : (P : Stepped → Type 0) (s : State) (c t : ℕ) → ((r : Stepped) → IsSwitch s t c (after_catch_up s.world t) r → P r) → P (after_running s c t)
-unfolding after_running
-by_start P s c t each = go (is_ejected s) refl
-  where
-    go : (b : Bool) → is_ejected s ≡ b → P (if b then stays (with_world s (after_catch_up s.world t)) else call_back s callback.Running (one_task t) t c)
-    go true out = each _ (Silent out)
-    go false force = each _ (Called callback.Running (one_task t) Coming)
-
--- ---- tasks are let go
-
--- what is shown of one that is let go, at one of the parked and a state, so that it is so of all
-pub record IsOneLetGo (I : State → Type 0) (At : State → Option ℕ → Type 0) (R : State → Stepped → Type 0) : Type 0 where
-  pub none : (s : State) → I s → R s (stays s)
-  pub joined : (s : State) (a r : Stepped) → R s a → R a.state r → R s (one_after_other a r)
-  pub passed : (s : State) (t : ℕ) → At s (Some t) → At s (behind_of s.world.queues t)
-  pub one : (s : State) (t : ℕ) → At s (Some t) → I s → R s (let_go_one s t) × I (let_go_one s t).state × At (let_go_one s t).state (behind_of s.world.queues t)
-
-module _ (I : State → Type 0) (At : State → Option ℕ → Type 0) (R : State → Stepped → Type 0) (k : IsOneLetGo I At R) where
-  all_let_go : (j : ℕ) (s : State) (o : Option ℕ) → At s o → I s → R s (let_go_from j s o)
-  unfolding let_go_from
-  all_let_go zero s o here h = k.none s h
-  all_let_go (suc j) s None here h = k.none s h
-  all_let_go (suc j) s (Some t) here h =
-      let next = behind_of s.world.queues t in
-      let r = let_go_one s t in
-      let x = k.one s t here h in
-      keeps_if (R s) (is_throttled s.world t) (let_go_from j s next) (one_after_other r (let_go_from j r.state next)) (all_let_go j s next (k.passed s t here) h) (k.joined s r (let_go_from j r.state next) x.0 (all_let_go j r.state next x.2 x.1))
-
-  -- from the front of the parked on
-  pub parked_let_go : (s : State) → At s (front_of s.world.queues parked_queue) → I s → R s (let_all_go s)
-  unfolding let_all_go
-  parked_let_go s here h = all_let_go (len_of s.world.queues parked_queue) s (front_of s.world.queues parked_queue) here h
 
 -- ---- what events keep
 
@@ -205,7 +150,7 @@ module _ (MaySleep : ℕ → Type 0) (I : State → Type 0) (k : IsKeptPlainly M
 
   walk_switch : (s : State) (t c : ℕ) (out : WorldState) → I (with_world s out) → I s → (r : Stepped) → IsSwitch s t c out r → Leaves r
   walk_switch s t c out silent h _ (Silent e) = silent
-  walk_switch s t c out silent h _ (Called b a is) = k.told s b a t c is h
+  walk_switch s t c out silent h _ (Called b a force is) = k.told s b a t c is h
 
   walk_put_back : (s : State) (c t : ℕ) → I s → Leaves (put_back s c t)
   unfolding put_back
