@@ -2,6 +2,7 @@ pub mod Each
 pub mod Limits
 pub mod Masks
 pub mod Numbers
+pub mod Parents
 pub mod Values
 pub mod Forest
 pub mod Plainly

@@ -1,11 +1,11 @@
 -- The meaning of the fields of a workload, and of its parts as they are read.
-use Rattle.std.specs.Prelude.{◌≡◌, ℕ, ◌<◌, ◌≤◌, length}
+use Rattle.std.specs.Prelude.{◌≡◌, ℕ, ◌<◌, ◌≤◌, false, length, slice_index_or}
 use Rattle.scx_load_workloads.specs.declared.workload.Workload.TheInside.{Inside}
 use Rattle.scx_load_workloads.specs.declared.groups.Groups.TheInside.{Inside as InsideGroups}
 use Rattle.scx_load_workloads.specs.declared.tasks.Tasks.TheInside.{Inside as InsideTasks}
 use Rattle.scx_load_workloads.specs.Workload.{WorkloadState, IsOwnWeight, own_weight_at, IsTiming, timing_at}
 use Rattle.scx_load_workloads.specs.KeptNames.{texts}
-use Rattle.scx_load_workloads.specs.Reading.{GroupList, TaskList}
+use Rattle.scx_load_workloads.specs.Reading.{GroupList, TaskList, has_children}
 
 -- the workload that the fields of a `Workload` mean
 abbrev pub state_of : Inside → WorkloadState
@@ -29,10 +29,14 @@ state_of w = record {
 abbrev pub groups_of : InsideGroups → GroupList
 groups_of g = record { names = g.names; groups = g.groups.items }
 
--- what holds of groups as they are read: each has a name, and there are 256 at most
+-- what holds of groups as they are read: each has a name, those with others below them are marked,
+-- and there are 256 at most
 pub record AreGroups (g : InsideGroups) : Type 0 where
   pub even : length g.names ≡ length g.groups.items
   pub few : length g.groups.items ≤ 256
+  pub marked : length g.parents.items ≡ length g.groups.items
+  pub parents : (k : ℕ)
+      → slice_index_or g.parents.items k false ≡ has_children g.groups.items k
 
 -- the tasks, with their names, that the fields of a `Tasks` mean
 abbrev pub tasks_of : InsideTasks → TaskList

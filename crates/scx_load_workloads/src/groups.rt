@@ -1,5 +1,5 @@
 //! The groups of a workload file.
-ghost use Rattle.std.specs.Prelude.{◌≡◌, ◌+◌, ◌<◌, ◌≤◌, ◌++◌, ◌∷◌, [], None, Some, codes, length, IfOk, OnOk, IfErr};
+ghost use Rattle.std.specs.Prelude.{◌≡◌, ◌+◌, ◌<◌, ◌≤◌, ◌++◌, ◌∷◌, ◌||◌, [], None, Some, ℕ, false, codes, length, slice_index_or, IfOk, IfSome, OnOk, IfErr};
 ghost use Rattle.toml.specs.View.{view, table_view, items_view};
 ghost use Rattle.scx_load_files.specs.declared.fault.LoadError.TheVariants.{NoMemory};
 ghost use Rattle.scx_load_files.specs.Faults.{Gives};
@@ -7,7 +7,7 @@ ghost use Rattle.scx_load_files.specs.Paths.{below};
 ghost use Rattle.scx_load_files.specs.Values.{required, optional};
 ghost use Rattle.scx_weights.specs.Hierarchy.{parent_of};
 ghost use Rattle.scx_weights.specs.Refusals.{above, is_parent};
-ghost use Rattle.scx_load_workloads.specs.Reading.{index_of, new_name, is_deep, has_children, fold_from};
+ghost use Rattle.scx_load_workloads.specs.Reading.{index_of, new_name, is_deep, fold_from};
 ghost use Rattle.scx_load_workloads.specs.KeptNames.{texts};
 
 use crate::elements::{integer_or, some_elements};
@@ -32,6 +32,8 @@ const DEFAULT_WEIGHT: u32 = 100;
 pub struct Groups {
     names: Names,
     groups: Vec<Group>,
+    /// True at the number of each group that is the parent of another.
+    parents: Vec<bool>,
 }
 
 impl Model for Groups {
@@ -49,33 +51,17 @@ impl Groups {
     ghost use Rattle.scx_load_workloads.specs.Reading.{no_groups, groups_in, group_at, with_group, group_named, parent_named, leaf_named};
 
     /// The groups of a file.
+    #[tactic(auto, using(crate::proofs::Each::goes_on, crate::proofs::Each::ends, crate::proofs::Each::is_done))]
     pub(crate) fn read(alloc: Global, file: Section<'_>) -> Result<Groups, LoadError>
         requires { file.path.now ≡ [] }
         ensures { Gives (λ g. g) result (groups_in (table_view file.entry.table.now)) }
     {
         let values = some_elements(alloc, file, "group", MAX_GROUPS)?;
         let mut groups = Groups::none(alloc);
-        match groups.push_all(alloc, values) {
-            Ok(()) => Ok(groups),
-            Err(error) => {
-                drop(groups);
-                Err(error)
-            }
-        }
-    }
-
-    /// Adds the groups that elements say, before which there are none.
-    #[tactic(auto, using(crate::proofs::Each::goes_on, crate::proofs::Each::ends, crate::proofs::Each::is_done))]
-    fn push_all(&mut self, alloc: Global, values: &[Value]) -> Result<(), LoadError>
-        requires none { self.old ≡ no_groups }
-        requires few { length values.now ≤ 256 }
-        ensures { Gives (λ _. self.new) result
-            (fold_from group_at no_groups 0 (items_view values.now)) }
-    {
         for (number, value) in values.iter().enumerate() {
-            self.push_element(alloc, number, value)?;
+            groups.push_element(alloc, number, value)?;
         }
-        Ok(())
+        Ok(groups)
     }
 
     fn none(alloc: Global) -> Groups
@@ -84,6 +70,7 @@ impl Groups {
         Groups {
             names: Names::none(alloc),
             groups: Vec::new(alloc),
+            parents: Vec::new(alloc),
         }
     }
 
@@ -96,15 +83,6 @@ impl Groups {
     {
         let path = element_path(alloc, "group", number)?;
         let section = Section::of(alloc, &path, value)?;
-        self.push_section(alloc, section)
-    }
-
-    fn push_section(&mut self, alloc: Global, section: Section<'_>) -> Result<(), LoadError>
-        requires { length self.old.groups < 256 }
-        ensures groups { Gives (λ _. self.new) result
-            (with_group self.old section.entry.path.now (table_view section.entry.table.now)) }
-        ensures count { OnOk result (length self.new.groups ≡ length self.old.groups + 1) }
-    {
         let (name, group) = self.read_group(alloc, section)?;
         self.push(alloc, name, group)
     }
@@ -121,6 +99,8 @@ impl Groups {
         })) result
             (with_group self.now section.entry.path.now (table_view section.entry.table.now)) }
         ensures new { IfOk result (λ read. index_of self.now.names read.0.now ≡ None) }
+        ensures parent { IfOk result
+            (λ read. IfSome read.1.parent (λ p. p < length self.now.groups)) }
     {
         let name = new_name(alloc, &self.names, section)?;
         let weight = integer_or(alloc, section, "weight", WEIGHT, DEFAULT_WEIGHT)?;
@@ -135,9 +115,11 @@ impl Groups {
         Ok((name, group))
     }
 
+    #[tactic(auto, using(crate::proofs::Parents::one_more))]
     fn push(&mut self, alloc: Global, name: &str, group: Group) -> Result<(), LoadError>
         requires few { length self.old.groups < 256 }
         requires new { index_of self.old.names name.now ≡ None }
+        requires parent { IfSome group.parent (λ p. p < length self.old.groups) }
         ensures groups { OnOk result
             (self.new
             ≡ (record {
@@ -148,16 +130,20 @@ impl Groups {
         ensures memory { IfErr result (λ e. e ≡ NoMemory) }
     {
         self.groups.reserve(1)?;
+        self.parents.reserve(1)?;
         self.names.push(alloc, name)?;
+        mark(&mut self.parents, group.parent);
+        self.parents.push_reserved(false);
         self.groups.push_reserved(group);
         Ok(())
     }
 
     /// The parent that an element names; it may have none. `NoSuchGroup` or `TooDeep`.
     fn parent(&self, alloc: Global, section: Section<'_>) -> Result<Option<u32>, LoadError>
-        ensures { Gives (λ p. p) result
+        ensures parent { Gives (λ p. p) result
             (optional (parent_named self.now) None section.entry.path.now (codes "parent")
             (table_view section.entry.table.now)) }
+        ensures known { IfOk result (λ p. IfSome p (λ n. n < length self.now.groups)) }
     {
         match section.value("parent") {
             Some(value) => {
@@ -211,7 +197,7 @@ impl Groups {
             (table_view section.entry.table.now)) }
     {
         let group = self.named(alloc, section)?;
-        if has_children(&self.groups, group) {
+        if self.parents[group as usize] {
             return refused(alloc, section.path, "group", Cause::NotALeaf);
         }
         Ok(group)
@@ -222,7 +208,12 @@ impl Groups {
         ensures names { texts result.1.items ≡ self.names }
         ensures even { length self.names ≡ length self.groups }
     {
-        (self.groups, self.names.into_list())
+        let Groups {
+            names,
+            groups,
+            parents: _parents,
+        } = self;
+        (groups, names.into_list())
     }
 }
 
@@ -264,14 +255,16 @@ fn is_deep(groups: &[Group], parent: u32) -> bool
     two_above(groups, parent).is_some()
 }
 
-fn is_parent(group: u32, parent: Option<u32>) -> bool
-    ensures { result ≡ is_parent group parent }
+/// Marks a parent.
+#[tactic(auto, using(crate::proofs::Parents::marked))]
+fn mark(parents: &mut [bool], parent: Option<u32>)
+    requires { IfSome parent (λ p. p < length parents.old) }
+    ensures marks { (k : ℕ)
+        → slice_index_or parents.new k false
+        ≡ (slice_index_or parents.old k false || is_parent k parent) }
+    ensures count { length parents.new ≡ length parents.old }
 {
-    parent == Some(group)
-}
-
-fn has_children(groups: &[Group], group: u32) -> bool
-    ensures { result ≡ has_children groups.now group }
-{
-    groups.iter().any(|child| is_parent(group, child.parent))
+    if let Some(parent) = parent {
+        parents[parent as usize] = true;
+    }
 }

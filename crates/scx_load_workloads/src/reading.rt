@@ -45,17 +45,7 @@ pub fn read_workload_by(alloc: Global, rules: Rules, text: &str) -> Result<Workl
     ensures { Gives (λ workload. workload) result (workload_by rules text.now) }
 {
     let table = read_document(alloc, text)?;
-    let workload = read_table(alloc, rules, Section::whole(&table));
-    drop(table);
-    workload
-}
-
-/// Reads the table of a file.
-fn read_table(alloc: Global, rules: Rules, file: Section<'_>) -> Result<Workload, LoadError>
-    requires { file.path.now ≡ [] }
-    ensures { Gives (λ workload. workload) result
-        (workload_file rules (table_view file.entry.table.now)) }
-{
+    let file = Section::whole(&table);
     check_keys(alloc, rules, file)?;
     read_known_keys_by(alloc, rules, file)
 }
@@ -133,33 +123,28 @@ pub fn read_known_keys_by(
     let ms = integer(alloc, file, "ms", LENGTH)?;
     let seed = read_seed(alloc, file, rules)?;
     let groups = Groups::read(alloc, file)?;
-    match Tasks::read(alloc, file, rules, cpus, &groups) {
-        Ok(tasks) => match read_changes(alloc, file, rules, &groups, &tasks) {
-            Ok(changes) => {
-                let (groups, group_names) = groups.into_parts();
-                let (homes, task_names, own_weights, masks, timings) = tasks.into_parts();
-                Ok(Workload {
-                    cpus,
-                    ms,
-                    seed,
-                    groups,
-                    group_names,
-                    homes,
-                    task_names,
-                    own_weights,
-                    masks,
-                    timings,
-                    changes,
-                })
-            }
-            Err(error) => {
-                drop(groups);
-                drop(tasks);
-                Err(error)
-            }
-        },
+    let tasks = Tasks::read(alloc, file, rules, cpus, &groups)?;
+    match read_changes(alloc, file, rules, &groups, &tasks) {
+        Ok(changes) => {
+            let (groups, group_names) = groups.into_parts();
+            let (homes, task_names, own_weights, masks, timings) = tasks.into_parts();
+            Ok(Workload {
+                cpus,
+                ms,
+                seed,
+                groups,
+                group_names,
+                homes,
+                task_names,
+                own_weights,
+                masks,
+                timings,
+                changes,
+            })
+        }
         Err(error) => {
             drop(groups);
+            drop(tasks);
             Err(error)
         }
     }
@@ -177,6 +162,7 @@ fn read_seed(alloc: Global, file: Section<'_>, rules: Rules) -> Result<u64, Load
     }
 }
 
+#[tactic(auto, using(crate::proofs::Each::goes_on, crate::proofs::Each::ends, crate::proofs::Each::is_done, crate::proofs::Values::changes_more))]
 fn read_changes(
     alloc: Global,
     file: Section<'_>,
@@ -195,26 +181,6 @@ fn read_changes(
         (change_at changes.items i)) }
 {
     let values = elements(alloc, file, "change", MAX_CHANGES)?;
-    read_all(alloc, values, rules, groups, tasks)
-}
-
-#[tactic(auto, using(crate::proofs::Each::goes_on, crate::proofs::Each::ends, crate::proofs::Each::is_done, crate::proofs::Values::changes_more))]
-fn read_all(
-    alloc: Global,
-    values: &[Value],
-    rules: Rules,
-    groups: &Groups,
-    tasks: &Tasks,
-) -> Result<Vec<Change>, LoadError>
-    requires { length tasks.now.homes ≤ 1024 }
-    ensures changes { Gives (λ changes. changes.items) result
-        (fold_from (with_change rules groups.now tasks.now) [] 0 (items_view values.now)) }
-    ensures count { IfOk result (λ changes. length changes.items ≡ length values.now) }
-    ensures valid { IfOk result
-        (λ changes. (i : ℕ) → i < length changes.items
-        → IsChange (length groups.now.groups) (length tasks.now.homes)
-        (change_at changes.items i)) }
-{
     let mut changes = Vec::with_capacity(alloc, values.len())?;
     for (number, value) in values.iter().enumerate() {
         changes.push(read_change(alloc, rules, groups, tasks, number, value)?)?;

@@ -51,6 +51,7 @@ impl Tasks {
     ghost use Rattle.scx_load_workloads.specs.Reading.{no_tasks, tasks_in, task_at, with_task, task_named};
 
     /// The tasks of a file with that number of CPUs, for a policy by those rules.
+    #[tactic(auto, using(crate::proofs::Each::goes_on, crate::proofs::Each::ends, crate::proofs::Each::is_done))]
     pub(crate) fn read(
         alloc: Global,
         file: Section<'_>,
@@ -68,36 +69,10 @@ impl Tasks {
     {
         let values = some_elements(alloc, file, "task", MAX_TASKS)?;
         let mut tasks = Tasks::none(alloc);
-        match tasks.push_all(alloc, values, rules, cpus, groups) {
-            Ok(()) => Ok(tasks),
-            Err(error) => {
-                drop(tasks);
-                Err(error)
-            }
-        }
-    }
-
-    /// Adds the tasks that elements say, before which there are none.
-    #[tactic(auto, using(crate::proofs::Each::goes_on, crate::proofs::Each::ends, crate::proofs::Each::is_done))]
-    fn push_all(
-        &mut self,
-        alloc: Global,
-        values: &[Value],
-        rules: Rules,
-        cpus: u32,
-        groups: &Groups,
-    ) -> Result<(), LoadError>
-        requires none { self.old ≡ no_tasks }
-        requires some_cpus { 1 ≤ cpus }
-        requires few_cpus { cpus ≤ 64 }
-        ensures tasks { Gives (λ _. self.new) result
-            (fold_from (task_at rules cpus groups.now) no_tasks 0 (items_view values.now)) }
-        ensures count { OnOk result (length self.new.homes ≡ length values.now) }
-    {
         for (number, value) in values.iter().enumerate() {
-            self.push_element(alloc, rules, cpus, groups, number, value)?;
+            tasks.push_element(alloc, rules, cpus, groups, number, value)?;
         }
-        Ok(())
+        Ok(tasks)
     }
 
     fn none(alloc: Global) -> Tasks
@@ -130,24 +105,6 @@ impl Tasks {
     {
         let path = element_path(alloc, "task", number)?;
         let section = Section::of(alloc, &path, value)?;
-        self.push_section(alloc, rules, cpus, groups, section)
-    }
-
-    fn push_section(
-        &mut self,
-        alloc: Global,
-        rules: Rules,
-        cpus: u32,
-        groups: &Groups,
-        section: Section<'_>,
-    ) -> Result<(), LoadError>
-        requires some_cpus { 1 ≤ cpus }
-        requires few_cpus { cpus ≤ 64 }
-        ensures tasks { Gives (λ _. self.new) result
-            (with_task rules cpus groups.now self.old section.entry.path.now
-            (table_view section.entry.table.now)) }
-        ensures count { OnOk result (length self.new.homes ≡ length self.old.homes + 1) }
-    {
         let name = new_name(alloc, &self.names, section)?;
         let home = groups.leaf(alloc, section)?;
         let weight = read_own_weight(alloc, section, rules)?;

@@ -2,7 +2,7 @@ use Rattle.std.proofs.Common.{◌≡◌, ℕ, ◌<◌, [], drop, length}
 use Rattle.toml.specs.View.{items_view}
 use Rattle.scx_load_workloads.specs.Workload.{IsChange, change_at}
 use Rattle.scx_load_workloads.specs.Reading.{fold_from, with_change}
-use Rattle.scx_load_workloads.proofs.reading.read_all.Given as goal
+use Rattle.scx_load_workloads.proofs.reading.read_changes.Given as goal
 
 abbrev pub invariant-loop-number : goal.invariant-loop-number
 invariant-loop-number l = record {
