@@ -32,6 +32,7 @@ form_of u waits = record {
   pushes = false;
   waits = waits;
   idle_slices = tells_idle_slices u;
+  slices = true;
   keys = u.vtime_inserts;
   vtime = u.vtime;
   run_ns = u.run_ns;
@@ -45,6 +46,11 @@ form_of u waits = record {
 -- number of a task or a weight of its own, or asks for a task by its number
 abbrev pub without_names : Form → Uses → Form
 without_names f u = record f { names = u.pid || (u.task_by_pid || u.own_weight) }
+
+-- that form, where slices are left out if tasks may change places and no program loads one or a
+-- run time: a tick then changes nothing that is told but whether a slice has ended
+abbrev pub without_slices : Form → Uses → Form
+without_slices f u = record f { slices = f.names || (u.slice || u.run_ns) }
 
 -- ---- under a policy
 
@@ -77,10 +83,11 @@ DoAll r shapes p (b ∷ bs) u v =
     (w : Uses) × DoesAs r shapes b (at p b) u w × DoAll r shapes p bs w v
 
 -- What is kept in lists of that mode and depth, where tasks wait so long at most and programs do
--- that: in lists of events waits only where one may be too long, and tasks of a group may change
--- places.
+-- that: in lists of events waits only where one may be too long, and slices only where a program
+-- may tell how long one is; and there tasks of a group may change places.
 abbrev pub form_within : Mode → ℕ → ℕ → Uses → Form
-form_within Events depth timeout_ms u = without_names (form_of u (nat_lt timeout_ms depth)) u
+form_within Events depth timeout_ms u =
+    without_slices (without_names (form_of u (nat_lt timeout_ms depth)) u) u
 form_within Milliseconds depth timeout_ms u = form_of u true
 form_within Workloads depth timeout_ms u = form_of u true
 
@@ -96,8 +103,8 @@ pub record IsFormOf (policy : List ℕ) (b : Bounds) (f : Form) : Type 0 where
   pub read : policy_text policy ≡ Ok file
   pub form : IsFormIn file b f
 
--- states of a search from that machine are written in this form: the one of the policy, but where
--- maps are large with words of them that suit the machine
+-- states of a search from that machine are written in this form: the one of the policy, but with
+-- slices where the machine needs them, and where maps are large with words of them that suit it
 pub record IsFormFrom (policy : List ℕ) (b : Bounds) (s : SimState) (f : Form) : Type 0 where
   pub plain : Form
   pub of_policy : IsFormOf policy b plain

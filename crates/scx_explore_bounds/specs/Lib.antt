@@ -1,4 +1,5 @@
 pub mod Uses
 pub mod Events
+pub mod Repeats
 pub mod Forms
 pub mod Told

@@ -1,6 +1,6 @@
 ghost use Rattle.std.specs.Prelude.{◌≡◌, true, nat_lt, IfOk, option_map};
 ghost use Rattle.scx_isa_semantics.specs.Callbacks.{callbacks};
-ghost use Rattle.scx_explore_bounds.specs.Forms.{DoAll, DoesAs, IsFormIn, IsFormOf, form_of, form_within, no_uses, without_names};
+ghost use Rattle.scx_explore_bounds.specs.Forms.{DoAll, DoesAs, IsFormIn, IsFormOf, form_of, form_within, no_uses, without_names, without_slices};
 
 use crate::bounds::{Bounds, Mode};
 use crate::uses::Uses;
@@ -19,7 +19,8 @@ use std::alloc::{AllocError, Global};
 /// Pushes are always left out: they are compared within a queue only, and there places say which task came first.
 ///
 /// Where lists are of events, and no program tells tasks of a group apart, these may change places. In a millisecond
-/// tasks have their turns by number.
+/// tasks have their turns by number. And where they may, and no program loads a slice or a run time, slices are left out of lists of events:
+/// a machine that needs them has them all the same.
 ///
 /// # Errors
 ///
@@ -94,7 +95,10 @@ fn form_within(mode: Mode, depth: usize, timeout_ms: u32, uses: Uses) -> Form
     ensures { result ≡ form_within mode depth timeout_ms uses }
 {
     match mode {
-        Mode::Events => without_names(form_of_events(uses, timeout_ms, depth), uses),
+        Mode::Events => {
+            let form = without_names(form_of_events(uses, timeout_ms, depth), uses);
+            without_slices(form, uses)
+        }
         Mode::Milliseconds | Mode::Workloads => form_by(uses, true),
     }
 }
@@ -114,6 +118,7 @@ fn form_by(uses: Uses, waits: bool) -> Form
         pushes: false,
         waits,
         idle_slices: uses.tells_idle_slices(),
+        slices: true,
         keys: uses.vtime_inserts,
         vtime: uses.vtime,
         run_ns: uses.run_ns,
@@ -134,6 +139,19 @@ fn without_names(form: Form, uses: Uses) -> Form
 {
     Form {
         names: uses.pid || (uses.task_by_pid || uses.own_weight),
+        ..form
+    }
+}
+
+/// The form in which slices are left out if tasks may change places, and no program loads a slice or a run time.
+///
+/// A tick changes the slice and the run time of a task, and what its groups have used. By plain rules the machine reads a slice
+/// only as it ends. So until then a tick changes nothing that is told.
+fn without_slices(form: Form, uses: Uses) -> Form
+    ensures { result ≡ without_slices form uses }
+{
+    Form {
+        slices: form.names || (uses.slice || uses.run_ns),
         ..form
     }
 }

@@ -9,6 +9,7 @@ use scx_sched::{Event, Sim};
 pub fn places(step: Step, cpus: u32) -> usize {
     match step {
         Step::Event(_) => 1,
+        Step::Ticks { times, .. } => times as usize,
         Step::Millisecond { .. } => MOST_TASKS + cpus as usize + MOST_TASKS + 1,
     }
 }
@@ -22,6 +23,7 @@ pub fn is_behind_ticks(place: usize, cpus: u32) -> bool {
 pub fn event_at(step: Step, cpus: u32, place: usize) -> Option<Event> {
     match step {
         Step::Event(event) => Some(event),
+        Step::Ticks { cpu, .. } => Some(Event::Tick(cpu)),
         Step::Millisecond { wakes, sleeps } => event_in(wakes, sleeps, cpus as usize, place),
     }
 }
@@ -73,6 +75,7 @@ fn most_of_step(mode: Mode, tasks: u16, cpus: u32) -> usize
 pub fn count_of(step: Step, cpus: u32) -> usize {
     match step {
         Step::Event(_) => 1,
+        Step::Ticks { times, .. } => times as usize,
         Step::Millisecond { wakes, sleeps } => {
             wakes.count() as usize + sleeps.count() as usize + cpus as usize + 1
         }

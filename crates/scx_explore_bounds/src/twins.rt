@@ -42,7 +42,11 @@ fn are_twins(form: Form, sim: &Sim, one: u16, other: u16) -> bool {
     }
     let (one, other) = (sim.world().task(one), sim.world().task(other));
     one.prev_cpu == other.prev_cpu
-        && is_same(form.idle_slices, one.slice, other.slice)
+        && is_same(
+            form.idle_slices,
+            form.kept_slice(one.slice),
+            form.kept_slice(other.slice),
+        )
         && is_same(form.vtime, one.vtime, other.vtime)
         && is_same(form.run_ns, one.run_ns, other.run_ns)
 }

@@ -1,5 +1,6 @@
 pub mod Queries
 pub mod Pointers
+pub mod Endless
 mod Eight
 mod Placed
 mod Putting

@@ -1,5 +1,5 @@
 -- A run of a program that asks for no task has pointers to no other task than the one that it was given.
-use Rattle.std.proofs.Common.{◌≡◌, ℕ, zero, suc, ◌+◌, ◌^◌, ◌&&◌, ℤ, pos, List, [], ◌∷◌, map, Bool, true, false, nat_eq, nat_lt, nat_le, length, if◌then◌else◌, Option, Some, None, option_map, refl, sym, subst}
+use Rattle.std.proofs.Common.{◌≡◌, ℕ, zero, suc, ◌+◌, ◌^◌, ◌&&◌, ℤ, pos, List, [], ◌∷◌, map, Bool, true, false, nat_eq, nat_lt, length, if◌then◌else◌, Option, Some, None, option_map, refl, sym, subst}
 use Rattle.std.specs.Prelude.{MatchBool}
 use Rattle.scx_isa_semantics.specs.declared.callbacks.Callback.{Callback}
 use Rattle.scx_isa_semantics.specs.declared.host_tables.Field.{Field}
@@ -23,19 +23,19 @@ use Rattle.scx_isa_semantics.specs.declared.values.StackByte.{StackByte}
 use Rattle.scx_isa_semantics.specs.declared.values.StackByte.TheVariants as byte
 use Rattle.scx_isa_semantics.specs.declared.values.Value.{Value}
 use Rattle.scx_isa_semantics.specs.declared.values.Value.TheVariants as value
-use Rattle.scx_isa_semantics.specs.Arithmetic.{negative, sign_extension, byte_swapped, wide_immediate, at_distance}
-use Rattle.scx_isa_semantics.specs.Calls.{takes_all, arguments, map_at_hand, key, without_arguments, after_call, element_or_0, number_given, served, with_bytes, replied, after_serving, region_at_hand, asks_here, map_effect, looked_up_in, looked_up, call_effect, call_helper}
-use Rattle.scx_isa_semantics.specs.Code.{Code, at, size as length_of}
+use Rattle.scx_isa_semantics.specs.Arithmetic.{negative, sign_extension, byte_swapped, wide_immediate}
+use Rattle.scx_isa_semantics.specs.Calls.{takes_all, arguments, map_at_hand, key, after_call, element_or_0, number_given, served, with_bytes, replied, after_serving, region_at_hand, asks_here, map_effect, looked_up_in, looked_up, call_effect, call_helper}
+use Rattle.scx_isa_semantics.specs.Code.{Code, at}
 use Rattle.scx_isa_semantics.specs.Directories as directories
 use Rattle.scx_isa_semantics.specs.Directories.{Directory}
 use Rattle.scx_isa_semantics.specs.Effects.{Query, Call, Load, Store, Effect, set_register, set_stack, branch}
 use Rattle.scx_isa_semantics.specs.Effects as effect
 use Rattle.scx_isa_semantics.specs.Elements.{Maps, directory, elements, element, number_at}
-use Rattle.scx_isa_semantics.specs.HostTables.{field_at, helper_at, parameters, is_allowed, is_writable, answers, answers_task, field_width}
+use Rattle.scx_isa_semantics.specs.HostTables.{helper_at, parameters, is_allowed, is_writable, answers, answers_task}
 use Rattle.scx_isa_semantics.specs.Locations.{Location, Nowhere, OnStack, InElement, InTask, on_stack, in_element, in_task, address}
-use Rattle.scx_isa_semantics.specs.Machine.{Machine, Arguments, start, start_registers, with_register, with_stack, with_maps, with_value_at}
+use Rattle.scx_isa_semantics.specs.Machine.{Machine, Arguments, start, with_register, with_maps, with_value_at}
 use Rattle.scx_isa_semantics.specs.Meaning.{operand_value, copy_of, number_arithmetic, pointer_step, pointer_moved, pointer_plus_number, pointer_combined, arithmetic, binary, on_number, map_reference, is_plain, load_effect, number_stored, pointer_stored, store_effect, comparison_answer, end_with, act}
-use Rattle.scx_isa_semantics.specs.Memory.{Stack, within, size_bytes, access_size, bytes_at, write, number_bytes, number_in, parts, are_parts, pointer_in, read_as, number_or_pointer, value_in, load, value_bytes, store}
+use Rattle.scx_isa_semantics.specs.Memory.{Stack, size_bytes, access_size, bytes_at, write, number_bytes, number_in, parts, are_parts, pointer_in, read_as, number_or_pointer, value_in, load, value_bytes}
 use Rattle.scx_isa_semantics.specs.Registers.{number}
 use Rattle.scx_isa_semantics.specs.Runs.{IsNumberBelow, IsTaskOrNull, Fits, LeadsTo, Leads, any_answer}
 use Rattle.scx_isa_semantics.specs.Serving.{Reply, Answer, Found, Gives}

@@ -5,7 +5,7 @@ use Rattle.scx_dsq.specs.Queues.{entry_of}
 use Rattle.scx_sched_world.specs.World.{WorldState, task_at, wait, cpu_of}
 use Rattle.scx_sched.specs.Sim.{SimState}
 use Rattle.scx_explore_states.specs.declared.form.Form.{Form}
-use Rattle.scx_explore_states.specs.Rows.{kept, waiting_key, is_by_vtime, ahead_of, entries_of, place_of, is_idle}
+use Rattle.scx_explore_states.specs.Rows.{kept, slice_kept, waiting_key, is_by_vtime, ahead_of, entries_of, place_of, is_idle}
 use Rattle.scx_explore_states.specs.Words.{most_queues}
 use Rattle.scx_explore_states.specs.Written.{IsWritten, usage_words, rules_words, map_words}
 
@@ -31,9 +31,9 @@ pub record IsKeptAlike (f : Form) (ids : List ℕ) (v w : WorldState) (k : ℕ) 
   pub by_vtime : is_by_vtime (entry_of v.queues k) ≡ is_by_vtime (entry_of w.queues k)
   pub slice :
       kept (f.idle_slices || not (is_idle (place_at v ids k) (entry_of v.queues k)))
-      (task_at v k).slice
+      (slice_kept f.slices (task_at v k).slice)
       ≡ kept (f.idle_slices || not (is_idle (place_at w ids k) (entry_of w.queues k)))
-      (task_at w k).slice
+      (slice_kept f.slices (task_at w k).slice)
   pub key :
       kept f.keys (waiting_key (entry_of v.queues k))
       ≡ kept f.keys (waiting_key (entry_of w.queues k))

@@ -1,5 +1,5 @@
 -- The words of a state, as a function of the machine's state.
-use Rattle.std.specs.Prelude.{◌≡◌, ℕ, zero, suc, ◌+◌, ◌-◌, ◌*◌, ◌/◌, ◌%◌, ◌^◌, ◌<◌, ◌≤◌, ◌==◌, min, Bool, true, List, [], ◌∷◌, ◌++◌, length, take, drop, bit_or, nat_lt, Contains, slice_index, slice_index_or, All, Option, Some, None, IfSome, if◌then◌else◌}
+use Rattle.std.specs.Prelude.{◌≡◌, ℕ, zero, suc, ◌+◌, ◌-◌, ◌*◌, ◌/◌, ◌%◌, ◌^◌, ◌<◌, ◌≤◌, ◌==◌, ◌||◌, min, Bool, true, List, [], ◌∷◌, ◌++◌, length, take, drop, bit_or, nat_lt, Contains, slice_index, slice_index_or, All, Option, Some, None, IfSome, if◌then◌else◌}
 use Rattle.scx_dsq.specs.declared.entries.Entry.{Entry}
 use Rattle.scx_isa_semantics.specs.Elements.{Maps}
 use Rattle.scx_maps.specs.Lending.{all_bytes}
@@ -190,8 +190,13 @@ pub record IsWritten (f : Form) (ids : List ℕ) (xs : List ℕ) (s : SimState) 
 
 -- ---- forms of a search
 
--- the second form is the first one with other words of maps: with all of them where the maps of
--- that machine have at most 4,096 bytes
+-- slices are kept by Linux rules, and where a group has a quota
+abbrev pub needs_slices : WorldState → Bool
+needs_slices w = are_linux w.rules || has_quota w.tree.groups
+
+-- the second form is the first one with slices, where that machine needs them, and with other words
+-- of maps: with all of them where its maps have at most 4,096 bytes
 pub record IsSuited (f : Form) (s : SimState) (g : Form) : Type 0 where
-  pub rest : g ≡ record f { map_words = g.map_words }
+  pub rest : g ≡ record f { slices = g.slices; map_words = g.map_words }
+  pub slices : g.slices ≡ (f.slices || needs_slices s.state.world)
   pub few : length (all_bytes s.state.maps) ≤ 4096 → g.map_words ≡ Whole

@@ -1,16 +1,17 @@
-ghost use Rattle.std.specs.Prelude.{◌≤◌};
-ghost use Rattle.scx_explore_states.specs.Written.{IsSuited};
+ghost use Rattle.std.specs.Prelude.{◌≡◌, ◌≤◌};
+ghost use Rattle.scx_explore_states.specs.Rows.{slice_kept};
+ghost use Rattle.scx_explore_states.specs.Written.{IsSuited, needs_slices};
 
 use crate::map_words::MapWords;
 use crate::rows::kept_tasks;
+use crate::ticks::is_endless;
 use scx_isa::Rules;
 use scx_sched::Sim;
 
 /// The most tasks of a machine that is searched.
 pub const MOST_TASKS: usize = 8;
 
-/// The parts of a state that are kept, beside places of tasks, slices of tasks that run or wait, usages of groups with
-/// quotas, maps and, under Linux rules, the claims and kicks of CPUs, the time since the last tick, and timers.
+/// The parts of a state that are kept, beside places of tasks, usages of groups with quotas, maps and, under Linux rules, the claims and kicks of CPUs, the time since the last tick, and timers.
 #[derive(Clone, Copy)]
 pub struct Form {
     /// The clock.
@@ -19,8 +20,10 @@ pub struct Form {
     pub pushes: bool,
     /// The waits of tasks.
     pub waits: bool,
-    /// The slices of tasks that sleep or are held.
+    /// The slices of tasks that sleep or are held, as slices are kept.
     pub idle_slices: bool,
+    /// The slices of tasks. Where they are left out, it is kept which of them never end.
+    pub slices: bool,
     /// The virtual times by which tasks wait in queues.
     pub keys: bool,
     /// The virtual times of tasks.
@@ -45,6 +48,7 @@ impl Form {
         pushes: true,
         waits: true,
         idle_slices: true,
+        slices: true,
         keys: true,
         vtime: true,
         run_ns: true,
@@ -54,15 +58,29 @@ impl Form {
         map_words: MapWords::Whole,
     };
 
-    /// The form with words of maps for states after that one of the machine. Where maps have more than 4,096 bytes, most
-    /// of them 0, only the others are kept, with room for sixteen more words for each task and CPU.
+    /// The form for states after that one of the machine. Slices are kept by Linux rules, and where a group has a quota.
+    /// Where maps have more than 4,096 bytes, most of them 0, only the others are kept, with room for sixteen more words
+    /// for each task and CPU.
     pub fn suited_to(self, sim: &Sim) -> Form
         ensures { IsSuited self sim.now result }
     {
         let more = 16 * (usize::from(sim.tasks()) + sim.cpus() as usize);
+        let needed = needs_slices(sim);
         Form {
+            slices: self.slices || needed,
             map_words: MapWords::of(sim.maps(), more),
             ..self
+        }
+    }
+
+    /// The slice as it is kept: 1 for one that never ends and 0 else, where slices are left out.
+    pub fn kept_slice(self, slice: u64) -> u64
+        ensures { result ≡ slice_kept self.slices slice }
+    {
+        if self.slices {
+            slice
+        } else {
+            u64::from(is_endless(slice))
         }
     }
 
@@ -84,6 +102,16 @@ impl Form {
         ensures { result ≤ 4 }
     {
         1 + usize::from(self.keys) + usize::from(self.vtime) + usize::from(self.run_ns)
+    }
+}
+
+/// True if states of this machine are to keep slices: by Linux rules, and where a group has a quota.
+fn needs_slices(sim: &Sim) -> bool
+    ensures { result ≡ needs_slices sim.now.state.world }
+{
+    match sim.world().rules() {
+        Rules::Plain => sim.world().is_limited(),
+        Rules::Linux => true,
     }
 }
 

@@ -1,7 +1,8 @@
 //! States of machines in words.
 //!
 //! A `Form` says what is kept of a state: no more than the machine and the programs of a policy can tell. It writes
-//! that as `Words`, in which `QueueNumbers` number the queues. A `Step` leads from one state to another.
+//! that as `Words`, in which `QueueNumbers` number the queues. A `Step` leads from one state to another. Where a form leaves out
+//! slices, ticks are tried as many `times` in a row as the slice of a task lasts.
 #![tactic(auto)]
 
 mod form;
@@ -11,6 +12,7 @@ mod order;
 mod queue_numbers;
 mod rows;
 mod step;
+mod ticks;
 mod words;
 mod written;
 
@@ -20,4 +22,5 @@ pub use map_words::MapWords;
 pub use queue_numbers::QueueNumbers;
 pub use rows::MOST_CPUS;
 pub use step::{Step, Tasks};
+pub use ticks::times;
 pub use words::Words;

@@ -6,6 +6,8 @@ use scx_sched::Event;
 pub enum Step {
     /// By one event.
     Event(Event),
+    /// By that many ticks of a CPU in a row, until the slice of its task ends.
+    Ticks { cpu: u32, times: u32 },
     /// By a millisecond: these tasks wake, each processor ticks, these go to sleep, and the clock grows. Tasks and
     /// processors have their turns by number.
     Millisecond { wakes: Tasks, sleeps: Tasks },
