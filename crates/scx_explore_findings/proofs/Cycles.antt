@@ -8,12 +8,12 @@ use Rattle.scx_sched_world.specs.declared.notes.What.TheVariants.{Stop, Run}
 use Rattle.scx_sched_world.specs.Ids.{builtin_queue, local_on}
 use Rattle.scx_sched_world.specs.World.{WorldState, with_cycling, out_of_cycle, with_kick, without_kick, task_at, running, note_now, or_this, this_if}
 use Rattle.scx_sched_world.specs.CpuSets.{is_in_set}
-use Rattle.scx_sched_world.specs.Tasks.{local_len, after_stop, started_at, after_run, after_switch, after_keep, to_front}
-use Rattle.scx_sched_world.specs.Ejecting.{after_catch_up, after_charge}
+use Rattle.scx_sched_world.specs.Tasks.{local_len, after_stop, started_at, after_run, after_keep, to_front}
+use Rattle.scx_sched_world.specs.Ejecting.{after_charge}
 use Rattle.scx_sched_world.specs.Pending.{is_pending, pending_below}
 use Rattle.scx_sched_policy.specs.Policy.{PolicyState}
 use Rattle.scx_sched_machine.specs.Steps.{State, Stepped, with_world, is_ejected, is_by_linux, stays, one_after_other}
-use Rattle.scx_sched_machine.specs.Callbacks.{call_back, noted_by, one_task, task_and_number, two_numbers, cpu_and_task}
+use Rattle.scx_sched_machine.specs.Callbacks.{call_back, noted_by, task_and_number, two_numbers, cpu_and_task}
 use Rattle.scx_sched_machine.specs.Custody.{tells_dequeued, leaver, tells_of, tells_each, moved_as, hears_dequeue, tells_left}
 use Rattle.scx_sched_machine.specs.Put.{enters, put}
 use Rattle.scx_sched_machine.specs.Filling.{fill}
@@ -26,10 +26,11 @@ use Rattle.scx_dsq.specs.declared.entries.Entry.{Entry}
 use Rattle.scx_sched_world.proofs.Fronts.{front_in}
 use Rattle.scx_explore_findings.specs.IdleSlices.{is_idle_of}
 use Rattle.scx_explore_findings.proofs.Records.{alike_if}
-use Rattle.scx_explore_findings.proofs.Omitting.{Omitted, omit, omit_state, omit_step}
+use Rattle.scx_explore_findings.proofs.Omitting.{Omitted, omit, omit_state, omit_step, early_out, given_out}
 use Rattle.scx_explore_findings.proofs.IdleTasks.{queued_busy, out_busy, Out}
-use Rattle.scx_explore_findings.proofs.Worlds.{plain, read_busy, hides_stop, hides_started, hides_run, hides_switch, hides_cycling, hides_cut_off, hides_keep, hides_charge, hides_catch_up}
+use Rattle.scx_explore_findings.proofs.Worlds.{plain, read_busy, hides_stop, hides_started, hides_run, hides_cycling, hides_cut_off, hides_keep, hides_charge}
 use Rattle.scx_explore_findings.proofs.Steps.{local_other, tells_first, tells_first_if, Passes, On, in_world, Turns, after_turn, turns_world, turned, turns_if, chain, noted, choose, single, rests, noted_same, passes_call_back, passes_call_by_linux, passes_enters, passes_put, passes_fill, passes_park_next, passes_supply}
+use Rattle.scx_explore_findings.proofs.Begun.{alone, turns_switched, passes_begins}
 
 module _ (h : Omitted) (p : PolicyState) where
   -- the task, if there is one, isn't one of those
@@ -60,7 +61,7 @@ module _ (h : Omitted) (p : PolicyState) where
   -- the policy hears that a task left its custody
   pub passes_dequeued : (t c flags : ℕ) → On h p (λ s. tells_dequeued s t c flags)
   unfolding tells_dequeued
-  passes_dequeued t c flags s is = passes_call_by_linux h p callback.Dequeue (task_and_number t flags) t c s is
+  passes_dequeued t c flags s is = let a = task_and_number t flags in passes_call_by_linux h p callback.Dequeue a t c (early_out h callback.Dequeue a refl) s is
 
   passes_tells_of : (o : Option ℕ) (c : ℕ) → On h p (λ s. tells_of o s c)
   passes_tells_of None c s is = rests h p s is
@@ -95,10 +96,11 @@ module _ (h : Omitted) (p : PolicyState) where
       let r = call_back s callback.Dispatch a 0 c in
       let q = call_back (omit_state h s) callback.Dispatch a 0 c in
       let ns = noted_by s callback.Dispatch a 0 c in
+      let out = early_out h callback.Dispatch a refl in
       λ tells.
       subst (λ (ms : List Note). Passes h p (one_after_other r (tells_left r.state c ns)) (one_after_other q (tells_left q.state c ms)))
-      (noted_same h p callback.Dispatch a 0 c s is (tells_first h p r (tells_left r.state c ns) q (tells_left q.state c (noted_by (omit_state h s) callback.Dispatch a 0 c)) tells))
-      (chain h p r q (λ x. tells_left x c ns) (passes_call_back h p callback.Dispatch a 0 c s is) (passes_tells_left ns c)) tells
+      (noted_same h p callback.Dispatch a 0 c out s is (tells_first h p r (tells_left r.state c ns) q (tells_left q.state c (noted_by (omit_state h s) callback.Dispatch a 0 c)) tells))
+      (chain h p r q (λ x. tells_left x c ns) (passes_call_back h p callback.Dispatch a 0 c out s is) (passes_tells_left ns c)) tells
 
   passes_dispatch : (c : ℕ) (o : Option ℕ) → IsOut o → On h p (λ s. after_dispatch s c o)
   unfolding after_dispatch
@@ -124,13 +126,7 @@ module _ (h : Omitted) (p : PolicyState) where
   unfolding after_stopping
   passes_stopping c t n out s is =
       choose h p (is_ejected s) (is_ejected s) (stays (with_world s (after_charge s.world t))) (stays (with_world (omit_state h s) (after_charge (omit h s.world) t))) (stopping_called s c t n) (stopping_called (omit_state h s) c t n) refl
-      (single h p s (after_charge s.world t) (after_charge (omit h s.world) t) [] [] (hides_charge h t out s.world) refl is) (passes_call_back h p callback.Stopping (task_and_number t n) t c s is)
-
-  passes_running : (c t : ℕ) → On h p (λ s. after_running s c t)
-  unfolding after_running
-  passes_running c t s is =
-      choose h p (is_ejected s) (is_ejected s) (stays (with_world s (after_catch_up s.world t))) (stays (with_world (omit_state h s) (after_catch_up (omit h s.world) t))) (call_back s callback.Running (one_task t) t c) (call_back (omit_state h s) callback.Running (one_task t) t c) refl
-      (single h p s (after_catch_up s.world t) (after_catch_up (omit h s.world) t) [] [] (hides_catch_up h t s.world) refl is) (passes_call_back h p callback.Running (one_task t) t c s is)
+      (single h p s (after_charge s.world t) (after_charge (omit h s.world) t) [] [] (hides_charge h t out s.world) refl is) (passes_call_back h p callback.Stopping (task_and_number t n) t c (given_out h callback.Stopping (task_and_number t n) t (λ u. alone (t == u)) out) s is)
 
   -- a task leaves its processor, and the policy hears of it
   passes_off : (c t n : ℕ) → h.idle t ≡ false → On h p (λ s. after_stopping (with_world s (after_stop s.world c t)) c t n)
@@ -152,19 +148,11 @@ module _ (h : Omitted) (p : PolicyState) where
       noted h p (note_now s.world (Stop t c) ∷ []) (one_after_other r (put_back r.state c t)) (one_after_other q (put_back q.state c t))
       (chain h p r q (λ x. put_back x c t) (passes_off c t 1 out s is) (passes_put_back c t out))
 
-  -- a task has begun to run
-  turns_switched : (t : ℕ) → Turns h p (λ s. switched s t)
-  unfolding switched
-  turns_switched t = turns_if h p (λ s. is_by_linux s && not (s.policy.tick_ms == 0)) (λ s. refl) (λ w. after_switch w t) (hides_switch h t)
-
-  passes_begun : (c t : ℕ) → On h p (λ s. after_running (switched s t) c t)
-  passes_begun c t = after_turn h p (λ s. switched s t) (λ s. after_running s c t) (turns_switched t) (passes_running c t)
-
   passes_started : (o : Option ℕ) (c : ℕ) (s : State) → s.policy ≡ p → ((t : ℕ) → o ≡ Some t → is_idle_of h.idle s.world t ≡ false) → Passes h p (started_if o s c) (started_if o (omit_state h s) c)
   passes_started None c s is busy = rests h p s is
   passes_started (Some t) c s is busy =
       noted h p (note_now s.world (Run t c) ∷ []) (after_running (switched (with_world s (started_at (Some t) s.world c)) t) c t) (after_running (switched (with_world (omit_state h s) (started_at (Some t) (omit h s.world) c)) t) c t)
-      (in_world h p (λ r. after_running (switched r t) c t) (passes_begun c t) s (started_at (Some t) s.world c) (started_at (Some t) (omit h s.world) c) (hides_started h t c s.world (busy t refl)) is)
+      (passes_begins h p (λ w. started_at (Some t) w c) c t s is (busy t refl) (λ g k. hides_started g t c s.world k))
 
   passes_start : (c : ℕ) → On h p (λ s. start s c)
   unfolding start
@@ -178,7 +166,7 @@ module _ (h : Omitted) (p : PolicyState) where
   -- a task that keeps the processor
   turns_kept : (o : Option ℕ) → Turns h p (λ s. kept s o)
   turns_kept None s = (ap (λ (u : WorldState). with_world s u) (plain h s.world), refl)
-  turns_kept (Some t) s = turns_switched t s
+  turns_kept (Some t) s = turns_switched h p t s
 
   passes_rest : (c : ℕ) (o : Option ℕ) (ran : Bool) → On h p (λ s. rest s c o ran)
   unfolding rest hears_idle
@@ -191,7 +179,7 @@ module _ (h : Omitted) (p : PolicyState) where
   -- the policy hears that a processor is idle, or idle no more
   passes_tells_idle : (c n : ℕ) → On h p (λ s. tells_idle s c n)
   unfolding tells_idle
-  passes_tells_idle c n s is = passes_call_by_linux h p callback.UpdateIdle (two_numbers c n) 0 c s is
+  passes_tells_idle c n s is = passes_call_by_linux h p callback.UpdateIdle (two_numbers c n) 0 c (early_out h callback.UpdateIdle (two_numbers c n) refl) s is
 
   passes_tells_busy : (c : ℕ) (o : Option ℕ) (ran : Bool) → On h p (λ s. tells_busy s c o ran)
   unfolding tells_busy
@@ -249,8 +237,8 @@ module _ (h : Omitted) (p : PolicyState) where
   unfolding start_picked
   passes_start_picked c t s is local =
       noted h p (note_now s.world (Run t c) ∷ []) (after_running (switched (with_world s (after_run s.world c t)) t) c t) (after_running (switched (with_world (omit_state h s) (after_run (omit h s.world) c t)) t) c t)
-      (in_world h p (λ r. after_running (switched r t) c t) (passes_begun c t) s (after_run s.world c t) (after_run (omit h s.world) c t)
-      (hides_run h c t s.world (queued_busy h.idle s.world t (local_on c) (local_other c) (in_queue (local_on c) (entry_of s.world.queues t) local))) is)
+      (passes_begins h p (λ w. after_run w c t) c t s is (queued_busy h.idle s.world t (local_on c) (local_other c) (in_queue (local_on c) (entry_of s.world.queues t) local))
+      (λ g k. hides_run g c t s.world k))
 
   passes_start_picked_or_cycle : (o : Option ℕ) (c : ℕ) (ran : Bool) → On h p (λ s. start_picked_or_cycle o s c ran)
   passes_start_picked_or_cycle None c ran s is = passes_start_or_cycle c ran s is

@@ -19,7 +19,7 @@ use Rattle.scx_sched_machine.specs.Steps.{State, Stepped}
 use Rattle.scx_sched_machine.specs.Events.{event_step}
 use Rattle.scx_sched.specs.Sim.{SimState, max_events, refusal, stepped_if, after_event}
 use Rattle.scx_explore_states.specs.declared.form.Form.{Form}
-use Rattle.scx_explore_states.specs.Rows.{kept, is_by_vtime, ahead_of, entries_of, place_of, is_idle, spot_of, bit_of, row_of, no_row, task_row, rows_of}
+use Rattle.scx_explore_states.specs.Rows.{kept, slice_kept, is_by_vtime, ahead_of, entries_of, place_of, is_idle, spot_of, bit_of, row_of, no_row, task_row, rows_of}
 use Rattle.scx_explore_states.specs.NotZero.{kept_words}
 use Rattle.scx_explore_states.specs.Written.{task_in, home_at, task_words, kept_word, time_words, usage_words, used_words, rules_words, past_tick, linux_words, map_words, state_words, IsWritten}
 use Rattle.scx_explore_findings.specs.Findings.{fault_in, stall_in, exit_in, is_left, waits_left, IsFirstLeft, IsIdleBehind}
@@ -120,8 +120,8 @@ module _ (k : ℕ) where
             ap (λ (n : ℕ). number_by w es t e n (task_at w t).prev_cpu) waited
             ∙ ap (number_by w es t e (time_since (w.clock + k) there.since)) (read k (λ x. x.prev_cpu) (λ x. refl) w t)
 
-        slice : kept (f.idle_slices || not (is_idle (place_of ids (cpu_of w t) e) e)) (task_at w t).slice ≡ kept (f.idle_slices || not (is_idle (place_of ids (cpu_of w t) e) e)) there.slice
-        slice = read k (λ x. kept (f.idle_slices || not (is_idle (place_of ids (cpu_of w t) e) e)) x.slice) (λ x. refl) w t
+        slice : kept (f.idle_slices || not (is_idle (place_of ids (cpu_of w t) e) e)) (slice_kept f.slices (task_at w t).slice) ≡ kept (f.idle_slices || not (is_idle (place_of ids (cpu_of w t) e) e)) (slice_kept f.slices there.slice)
+        slice = read k (λ x. kept (f.idle_slices || not (is_idle (place_of ids (cpu_of w t) e) e)) (slice_kept f.slices x.slice)) (λ x. refl) w t
 
         vtime : kept f.vtime (task_at w t).vtime ≡ kept f.vtime there.vtime
         vtime = read k (λ x. kept f.vtime x.vtime) (λ x. refl) w t

@@ -24,6 +24,7 @@ use Rattle.scx_sched_world.specs.Helpers.{weight_at, group_at}
 use Rattle.scx_sched_world.specs.Ejecting.{builtin_vtime, put_builtin, after_catch_up, at_most_64_bits, after_charge, evict, after_evictions, evict_note, evict_notes, cut_task, after_cut}
 use Rattle.scx_explore_findings.specs.Hidden.{with_tasks}
 use Rattle.scx_explore_findings.specs.Delayed.{delayed_task, delayed_eject, delayed_note, delay}
+use Rattle.scx_explore_findings.proofs.Leaving.{pushed, homing}
 use Rattle.scx_explore_findings.proofs.DelayedTasks.{through_if, as_long, Changes, read_of, set_of, changes_new_slice, changes_insert, overdue_as}
 
 -- the first of some processors for which one of two tests that agree holds
@@ -166,15 +167,9 @@ module _ (k : ℕ) where
 
   -- a task goes into a queue
   pub delays_enter : (t : ℕ) (i : Insert) → Delays (λ w. after_enter w t i)
-  delays_enter t i = if_known t (λ w. after_preempt (homed_at (pushed w) t (local_cpu w i.queue)) i) (both homing (λ w. after_preempt w i) (both pushed (λ w. homed_at w t (local_cpu w i.queue)) pushes (λ w. delays_homed_at t (local_cpu w i.queue) w)) (delays_preempt i))
+  delays_enter t i = if_known t (λ w. after_preempt (homing t i w) i) (both (homing t i) (λ w. after_preempt w i) (both (pushed t i) (λ w. homed_at w t (local_cpu w i.queue)) pushes (λ w. delays_homed_at t (local_cpu w i.queue) w)) (delays_preempt i))
     where
-      pushed : WorldState → WorldState
-      pushed w = with_queues (with_task w t (task_after_insert (task_at w t) i)) (after_push w.queues i.queue t (rank_by w i.rank))
-
-      homing : WorldState → WorldState
-      homing w = homed_at (pushed w) t (local_cpu w i.queue)
-
-      pushes : Delays pushed
+      pushes : Delays (pushed t i)
       pushes w =
           set_task (λ x. task_after_insert x i) (λ x. task_after_insert x i) (changes_insert k i) (with_queues w (after_push w.queues i.queue t (rank_by w i.rank))) t
           ∙ ap (λ (r : Rank). with_queues (with_task (delay k w) t (task_after_insert (task_at (delay k w) t) i)) (after_push w.queues i.queue t r)) (rank_as i.rank w)

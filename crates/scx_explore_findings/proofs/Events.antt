@@ -2,7 +2,10 @@
 -- is left out.
 use Rattle.std.proofs.Common.{◌≡◌, ℕ, zero, suc, ◌==◌, ◌&&◌, Bool, true, false, cond, nat_lt, [], ◌∷◌, length, Option, Some, None, refl, sym, ap, ◌∙◌, subst, List, inr}
 use Rattle.scx_dsq.specs.Queues.{len_of, front_of, behind_of}
+use Rattle.scx_isa_semantics.specs.declared.callbacks.Callback.{Callback}
 use Rattle.scx_isa_semantics.specs.declared.callbacks.Callback.TheVariants as callback
+use Rattle.scx_isa_semantics.specs.Arguments.{IsTask, FitsCallback}
+use Rattle.scx_isa_semantics.specs.Machine.{Arguments}
 use Rattle.scx_vm.specs.Programs.{VerifiedProgram}
 use Rattle.scx_sched_world.specs.declared.call.Insert.{Insert}
 use Rattle.scx_sched_world.specs.declared.eject.Eject.TheVariants as cause
@@ -28,14 +31,28 @@ use Rattle.scx_sched_machine.specs.Events.{cpu_or_home, answered_cpu, target, in
 use Rattle.scx_sched_machine.proofs.Choices.{keeps_if}
 use Rattle.scx_sched_world.specs.World as world
 use Rattle.scx_sched_machine.specs.Rounds.{round}
+use Rattle.scx_explore_states.specs.Asking.{is_early}
 use Rattle.scx_explore_findings.specs.HiddenStates.{once_let_go, once_later, late_in}
 use Rattle.scx_explore_findings.specs.IdleSlices.{runs_on}
-use Rattle.scx_explore_findings.proofs.Omitting.{Omitted, omit, omit_state, IfAny, if_any}
+use Rattle.scx_explore_findings.proofs.IdleRecords.{bits}
+use Rattle.scx_explore_findings.proofs.Omitting.{Omitted, omit, omit_state, IfAny, if_any, early_out, given_out}
 use Rattle.scx_explore_findings.proofs.IdleTasks.{out_busy, may_enter, on_that, on_one}
 use Rattle.scx_explore_findings.proofs.Worlds.{Hides, plain, both, by_linux, read, read_busy, throttled_same, chosen_same, choice_same, hides_homed, hides_stop, hides_begin_switch, hides_waker, hides_claim, overdue_same, hides_leave, hides_wake, hides_sleep, hides_let_go, hides_tick, hides_used, hides_reweigh, hides_own_weight, known}
 use Rattle.scx_explore_findings.proofs.Helpers.{Wants, wants_homed, wants_claimed}
 use Rattle.scx_explore_findings.proofs.Steps.{Tells, tells_first, tells_two, Passes, On, joined_alike, from, OnGiven, from_given, in_world, Turns, after_turn, turns_world, turned, turns_if, chain, chain_given, noted, choose, single, rests, passes_eject, answered_same, passes_call_back, call_back_wants, passes_call_by_linux, passes_enters, passes_put, passes_park}
+use Rattle.scx_explore_findings.proofs.Begun.{alone}
 use Rattle.scx_explore_findings.proofs.Cycles.{IsOut, passes_dequeued, passes_stopping, passes_cycle, passes_round}
+
+-- ---- what callbacks are given
+
+-- a callback that is given a task that runs has it as its first argument
+pub late_given : (b : Callback) → is_early b true ≡ false → (a : Arguments) → FitsCallback b a → IsTask a.first
+late_given callback.Running late a fits = fits
+late_given callback.Stopping late a fits = fits.0
+late_given callback.Tick late a fits = fits
+late_given b late a fits = absurd (bits true refl late)
+
+-- ---- events
 
 -- an event of one of two such states is refused for the same cause in the other one
 pub refusal_same : (h : Omitted) (s : State) (e : Event) → refusal s e ≡ refusal (omit_state h s) e
@@ -98,7 +115,7 @@ module _ (h : Omitted) (p : PolicyState) where
   passes_told_runnable o t c wants s is =
       let a = task_and_number t 1 in
       chain h p (call_by_linux s callback.Runnable a t c) (call_by_linux (omit_state h s) callback.Runnable a t c) (λ y. comes_to (while_in_force y o) y t c)
-      (passes_call_by_linux h p callback.Runnable a t c s is) (λ y there. passes_comes_to (while_in_force y o) t c (if_any h.idle (keeps_if Wants (is_ejected y) None o tt) wants) y there)
+      (passes_call_by_linux h p callback.Runnable a t c (early_out h callback.Runnable a refl) s is) (λ y there. passes_comes_to (while_in_force y o) t c (if_any h.idle (keeps_if Wants (is_ejected y) None o tt) wants) y there)
 
   -- once the task's processor is known
   abbrev homed_comes : ℕ → ℕ → State → Stepped
@@ -160,10 +177,11 @@ module _ (h : Omitted) (p : PolicyState) where
       let r = call_back s callback.SelectCpu (task_cpu_and_0 t c) t c in
       let q = call_back (omit_state h s) callback.SelectCpu (task_cpu_and_0 t c) t c in
       let a = answered_by s callback.SelectCpu (task_cpu_and_0 t c) t c in
+      let out = early_out h callback.SelectCpu (task_cpu_and_0 t c) refl in
       λ tells.
       subst (λ (b : Option ℕ). Passes h p (selected t c s) (one_after_other q (settled_by t b q.state)))
-      (answered_same h p callback.SelectCpu (task_cpu_and_0 t c) t c s is (tells_first h p r (settled_by t a r.state) q (settled_by t (answered_by (omit_state h s) callback.SelectCpu (task_cpu_and_0 t c) t c) q.state) tells))
-      (chain_given h p r q (settled_by t a) (passes_call_back h p callback.SelectCpu (task_cpu_and_0 t c) t c s is) (call_back_wants h p callback.SelectCpu (task_cpu_and_0 t c) t c s is) (passes_settled_by t a)) tells
+      (answered_same h p callback.SelectCpu (task_cpu_and_0 t c) t c out s is (tells_first h p r (settled_by t a r.state) q (settled_by t (answered_by (omit_state h s) callback.SelectCpu (task_cpu_and_0 t c) t c) q.state) tells))
+      (chain_given h p r q (settled_by t a) (passes_call_back h p callback.SelectCpu (task_cpu_and_0 t c) t c out s is) (call_back_wants h p callback.SelectCpu (task_cpu_and_0 t c) t c out s is) (passes_settled_by t a)) tells
 
   passes_ask_target : (t : ℕ) → On h p (λ s. ask_target s t)
   unfolding ask_target
@@ -210,7 +228,7 @@ module _ (h : Omitted) (p : PolicyState) where
   unfolding falls_asleep
   passes_falls_asleep t c s is =
       let a = task_and_number t 1 in
-      in_world h p (λ r. call_by_linux r callback.Quiescent a t c) (passes_call_by_linux h p callback.Quiescent a t c) s (after_sleep s.world t) (after_sleep (omit h s.world) t) (hides_sleep h t s.world) is
+      in_world h p (λ r. call_by_linux r callback.Quiescent a t c) (passes_call_by_linux h p callback.Quiescent a t c (early_out h callback.Quiescent a refl)) s (after_sleep s.world t) (after_sleep (omit h s.world) t) (hides_sleep h t s.world) is
 
   -- the task leaves its processor, on which it was the current one
   passes_leaves_cpu : (c t n : ℕ) → h.idle t ≡ false → On h p (λ s. leaves_cpu s c t n)
@@ -286,18 +304,18 @@ module _ (h : Omitted) (p : PolicyState) where
   unfolding use_up
   passes_use_up c t out s is = in_world h p (counted c t) (passes_counted c t out) s (used_ms s.world t) (used_ms (omit h s.world) t) (hides_used h t s.world) is
 
-  passes_tick_heard : (c t : ℕ) → On h p (λ s. tick_heard s c t)
+  passes_tick_heard : (c t : ℕ) → h.idle t ≡ false → On h p (λ s. tick_heard s c t)
   unfolding tick_heard hears_tick
-  passes_tick_heard c t s is =
+  passes_tick_heard c t out s is =
       choose h p (hears_tick s) (hears_tick s) (call_back s callback.Tick (one_task t) t c) (call_back (omit_state h s) callback.Tick (one_task t) t c) (stays s) (stays (omit_state h s)) refl
-      (passes_call_back h p callback.Tick (one_task t) t c s is) (rests h p s is)
+      (passes_call_back h p callback.Tick (one_task t) t c (given_out h callback.Tick (one_task t) t (λ u. alone (t == u)) out) s is) (rests h p s is)
 
   -- the policy hears of the tick first
   abbrev heard : ℕ → ℕ → State → Stepped
   heard c t s = let r = tick_heard s c t in one_after_other r (use_up r.state c t)
 
   passes_heard : (c t : ℕ) → h.idle t ≡ false → On h p (heard c t)
-  passes_heard c t out s is = chain h p (tick_heard s c t) (tick_heard (omit_state h s) c t) (λ y. use_up y c t) (passes_tick_heard c t s is) (passes_use_up c t out)
+  passes_heard c t out s is = chain h p (tick_heard s c t) (tick_heard (omit_state h s) c t) (λ y. use_up y c t) (passes_tick_heard c t out s is) (passes_use_up c t out)
 
   passes_count_down : (c t : ℕ) → h.idle t ≡ false → On h p (λ s. count_down s c t)
   unfolding count_down
@@ -365,7 +383,7 @@ module _ (h : Omitted) (p : PolicyState) where
       let v = after_fire s.world n in
       let w = after_fire (omit h s.world) n in
       turned h p fired turns_fired (call_by_linux (with_world s v) callback.Timer (one_number n) 0 a.cpu) (call_by_linux (with_world (omit_state h s) w) callback.Timer (one_number n) 0 a.cpu)
-      (in_world h p (λ r. call_by_linux r callback.Timer (one_number n) 0 a.cpu) (passes_call_by_linux h p callback.Timer (one_number n) 0 a.cpu) s v w (plain h v) is)
+      (in_world h p (λ r. call_by_linux r callback.Timer (one_number n) 0 a.cpu) (passes_call_by_linux h p callback.Timer (one_number n) 0 a.cpu (early_out h callback.Timer (one_number n) refl)) s v w (plain h v) is)
 
   due_now_same : (w : WorldState) (o : Option Alarm) → due_now w o ≡ due_now (omit h w) o
   due_now_same w None = refl
@@ -428,7 +446,7 @@ module _ (h : Omitted) (p : PolicyState) where
   unfolding takes_weight
   passes_takes_weight t c x s is =
       let a = task_and_number t x in
-      in_world h p (λ r. call_by_linux r callback.SetWeight a t c) (passes_call_by_linux h p callback.SetWeight a t c) s (after_own_weight s.world t x) (after_own_weight (omit h s.world) t x) (hides_own_weight h t x s.world) is
+      in_world h p (λ r. call_by_linux r callback.SetWeight a t c) (passes_call_by_linux h p callback.SetWeight a t c (early_out h callback.SetWeight a refl)) s (after_own_weight s.world t x) (after_own_weight (omit h s.world) t x) (hides_own_weight h t x s.world) is
 
   -- the task is told of as runnable again
   abbrev weighed_again : ℕ → ℕ → ℕ → State → Stepped
@@ -440,13 +458,13 @@ module _ (h : Omitted) (p : PolicyState) where
   passes_weighed_again : (t c x : ℕ) → On h p (weighed_again t c x)
   passes_weighed_again t c x s is =
       let a = task_and_number t restore_flag in
-      chain h p (takes_weight s t c x) (takes_weight (omit_state h s) t c x) (λ y. call_by_linux y callback.Runnable a t c) (passes_takes_weight t c x s is) (passes_call_by_linux h p callback.Runnable a t c)
+      chain h p (takes_weight s t c x) (takes_weight (omit_state h s) t c x) (λ y. call_by_linux y callback.Runnable a t c) (passes_takes_weight t c x s is) (passes_call_by_linux h p callback.Runnable a t c (early_out h callback.Runnable a refl))
 
   passes_changes_weight : (t c x : ℕ) → On h p (λ s. changes_weight s t c x)
   unfolding changes_weight
   passes_changes_weight t c x s is =
       let a = task_and_number t change_flags in
-      chain h p (call_by_linux s callback.Quiescent a t c) (call_by_linux (omit_state h s) callback.Quiescent a t c) (weighed_again t c x) (passes_call_by_linux h p callback.Quiescent a t c s is) (passes_weighed_again t c x)
+      chain h p (call_by_linux s callback.Quiescent a t c) (call_by_linux (omit_state h s) callback.Quiescent a t c) (weighed_again t c x) (passes_call_by_linux h p callback.Quiescent a t c (early_out h callback.Quiescent a refl) s is) (passes_weighed_again t c x)
 
   -- a task that runs, and runs on
   abbrev goes_on : ℕ → ℕ → ℕ → State → Stepped
@@ -455,15 +473,17 @@ module _ (h : Omitted) (p : PolicyState) where
       let r = call_by_linux b.state callback.Running (one_task t) t c in
       one_after_other b r
 
-  passes_goes_on : (t c x : ℕ) → On h p (goes_on t c x)
-  passes_goes_on t c x s is =
-      chain h p (changes_weight s t c x) (changes_weight (omit_state h s) t c x) (λ y. call_by_linux y callback.Running (one_task t) t c) (passes_changes_weight t c x s is) (passes_call_by_linux h p callback.Running (one_task t) t c)
+  passes_goes_on : (t c x : ℕ) → h.idle t ≡ false → On h p (goes_on t c x)
+  passes_goes_on t c x out s is =
+      chain h p (changes_weight s t c x) (changes_weight (omit_state h s) t c x) (λ y. call_by_linux y callback.Running (one_task t) t c) (passes_changes_weight t c x s is)
+      (passes_call_by_linux h p callback.Running (one_task t) t c (given_out h callback.Running (one_task t) t (λ u. alone (t == u)) out))
 
-  passes_reweigh_running : (t c x : ℕ) → On h p (λ s. reweigh_running s t c x)
+  passes_reweigh_running : (t c x : ℕ) → h.idle t ≡ false → On h p (λ s. reweigh_running s t c x)
   unfolding reweigh_running
-  passes_reweigh_running t c x s is =
+  passes_reweigh_running t c x out s is =
       let a = task_and_number t 0 in
-      chain h p (call_by_linux s callback.Stopping a t c) (call_by_linux (omit_state h s) callback.Stopping a t c) (goes_on t c x) (passes_call_by_linux h p callback.Stopping a t c s is) (passes_goes_on t c x)
+      chain h p (call_by_linux s callback.Stopping a t c) (call_by_linux (omit_state h s) callback.Stopping a t c) (goes_on t c x)
+      (passes_call_by_linux h p callback.Stopping a t c (given_out h callback.Stopping a t (λ u. alone (t == u)) out) s is) (passes_goes_on t c x out)
 
   -- a task that waits, and is put again
   abbrev waits_on : ℕ → ℕ → ℕ → State → Stepped
@@ -481,32 +501,32 @@ module _ (h : Omitted) (p : PolicyState) where
   passes_reweigh_off_cpu t c x s is =
       choose h p (waits s.world t) (waits s.world t) (reweigh_waiting s t c x) (reweigh_waiting (omit_state h s) t c x) (takes_weight s t c x) (takes_weight (omit_state h s) t c x) refl (passes_reweigh_waiting t c x s is) (passes_takes_weight t c x s is)
 
-  passes_reweigh_at : (o : Option ℕ) (t x : ℕ) → On h p (λ s. reweigh_at o s t x)
-  passes_reweigh_at None t x s is =
+  passes_reweigh_at : (o : Option ℕ) (t x : ℕ) → ((c : ℕ) → o ≡ Some c → h.idle t ≡ false) → On h p (λ s. reweigh_at o s t x)
+  passes_reweigh_at None t x out s is =
       let c = (task_at s.world t).prev_cpu in
       subst (λ (n : ℕ). Passes h p (reweigh_off_cpu s t c x) (reweigh_off_cpu (omit_state h s) t n x)) (read h (λ y. y.prev_cpu) (λ y. refl) (λ y. refl) s.world t) (passes_reweigh_off_cpu t c x s is)
-  passes_reweigh_at (Some c) t x s is = passes_reweigh_running t c x s is
-
-  passes_reweigh_by_linux : (t x : ℕ) → On h p (λ s. reweigh_by_linux s t x)
-  unfolding reweigh_by_linux
-  passes_reweigh_by_linux t x s is =
-      let o = cpu_of s.world t in
-      let v = with_waker s.world (Some 0) in
-      let w = with_waker (omit h s.world) (Some 0) in
-      turned h p woken turns_woken (reweigh_at o (with_world s v) t x) (reweigh_at o (with_world (omit_state h s) w) t x) (in_world h p (λ r. reweigh_at o r t x) (passes_reweigh_at o t x) s v w (plain h v) is)
-
-  passes_reweigh : (t x : ℕ) → On h p (λ s. reweigh s t x)
-  unfolding reweigh
-  passes_reweigh t x s is =
-      choose h p (is_by_linux s) (is_by_linux s) (reweigh_by_linux s t x) (reweigh_by_linux (omit_state h s) t x) (stays (with_world s (after_own_weight s.world t x))) (stays (with_world (omit_state h s) (after_own_weight (omit h s.world) t x))) refl
-      (passes_reweigh_by_linux t x s is) (single h p s (after_own_weight s.world t x) (after_own_weight (omit h s.world) t x) [] [] (hides_own_weight h t x s.world) refl is)
-
-  passes_weighed : (t x : ℕ) → On h p (λ s. own_step s (SetTaskWeight t x))
-  passes_weighed t x s is = noted h p (note_now s.world (note.TaskWeight t x) ∷ []) (reweigh s t x) (reweigh (omit_state h s) t x) (passes_reweigh t x s is)
+  passes_reweigh_at (Some c) t x out s is = passes_reweigh_running t c x (out c refl) s is
 
   -- where none of those tasks runs
   abbrev OnApart : (State → Stepped) → Type 0
   OnApart f = (s : State) → s.policy ≡ p → IsApart s.world → Passes h p (f s) (f (omit_state h s))
+
+  passes_reweigh_by_linux : (t x : ℕ) → OnApart (λ s. reweigh_by_linux s t x)
+  unfolding reweigh_by_linux
+  passes_reweigh_by_linux t x s is apart =
+      let o = cpu_of s.world t in
+      let v = with_waker s.world (Some 0) in
+      let w = with_waker (omit h s.world) (Some 0) in
+      turned h p woken turns_woken (reweigh_at o (with_world s v) t x) (reweigh_at o (with_world (omit_state h s) w) t x) (in_world h p (λ r. reweigh_at o r t x) (passes_reweigh_at o t x (λ c e. apart t (on_one s.world.cpus t c e))) s v w (plain h v) is)
+
+  passes_reweigh : (t x : ℕ) → OnApart (λ s. reweigh s t x)
+  unfolding reweigh
+  passes_reweigh t x s is apart =
+      choose h p (is_by_linux s) (is_by_linux s) (reweigh_by_linux s t x) (reweigh_by_linux (omit_state h s) t x) (stays (with_world s (after_own_weight s.world t x))) (stays (with_world (omit_state h s) (after_own_weight (omit h s.world) t x))) refl
+      (passes_reweigh_by_linux t x s is apart) (single h p s (after_own_weight s.world t x) (after_own_weight (omit h s.world) t x) [] [] (hides_own_weight h t x s.world) refl is)
+
+  passes_weighed : (t x : ℕ) → OnApart (λ s. own_step s (SetTaskWeight t x))
+  passes_weighed t x s is apart = noted h p (note_now s.world (note.TaskWeight t x) ∷ []) (reweigh s t x) (reweigh (omit_state h s) t x) (passes_reweigh t x s is apart)
 
   from_apart : (f : State → Stepped) → OnApart f → (s t : State) → omit_state h s ≡ omit_state h t → s.policy ≡ p → IsApart s.world → Passes h p (f s) (f t)
   from_apart f on s t e is apart =
@@ -532,7 +552,7 @@ module _ (h : Omitted) (p : PolicyState) where
   passes_own (Tick c) s t same is apart late = from_apart (λ r. tick r c) (passes_tick c) s t same is apart
   passes_own Clock s t same is apart late = passes_clock s t same is late
   passes_own (SetWeight g x) s t same is apart late = from h p (λ r. own_step r (SetWeight g x)) (passes_weight g x) s t same is
-  passes_own (SetTaskWeight u x) s t same is apart late = from h p (λ r. own_step r (SetTaskWeight u x)) (passes_weighed u x) s t same is
+  passes_own (SetTaskWeight u x) s t same is apart late = from_apart (λ r. own_step r (SetTaskWeight u x)) (passes_weighed u x) s t same is apart
 
   late_shown : h.parts.waits ≡ false → (s t : State) → omit_state h s ≡ omit_state h t → s.policy ≡ p → Tells h p (clock s) (clock t) → late_in s Clock ≡ late_in t Clock
   unfolding clock timers_and_watchdog

@@ -35,12 +35,15 @@ use Rattle.scx_sched_world.specs.Ids.{global, held_queue, builtin_queue, parked_
 use Rattle.scx_sched_world.specs.Tasks.{with_home, begun_periods}
 use Rattle.scx_sched_world.specs.World.{WorldState, task_at, first_home, at_callback, binds}
 use Rattle.scx_sched_machine.specs.Callbacks.{call_ending, acting}
-use Rattle.scx_sched_policy.specs.Policy.{PolicyState}
-use Rattle.scx_sched_machine.specs.Start.{by_policy, blank, first_state}
+use Rattle.scx_sched_policy.specs.Policy.{PolicyState, IsTimeout}
+use Rattle.scx_sched_machine.specs.Start.{is_bad_shape, by_policy, blank, first_state}
 use Rattle.scx_sched_machine.specs.Steps.{State}
 use Rattle.scx_sched_machine.proofs.Choices.{keeps_if}
 use Rattle.scx_sched.proofs.Begins.{left_by, keeps_started}
-use Rattle.scx_sched.specs.Sim.{SimState, IsFirstState, IsValid}
+use Rattle.scx_sched.proofs.First.{fine_started, time_started}
+use Rattle.scx_sched.proofs.Still.{still_first}
+use Rattle.scx_sched.specs.Ranges.{IsFine}
+use Rattle.scx_sched.specs.Sim.{SimState, IsFirstState}
 use Rattle.scx_explore_findings.specs.FifoOnly.{InsertInOrder}
 use Rattle.scx_explore_findings.specs.WholeForms.{AreSince, IsTidy, AreMapsOf, IsLed}
 use Rattle.scx_explore_findings.proofs.First.{first_states_are_in_order}
@@ -155,6 +158,12 @@ homes_quiet (suc n) w h = homes_quiet n w h
 zeros_shaped : (shapes : List Shape) → HasShapes shapes (zeros shapes)
 zeros_shaped shapes = record { lengths = (HasShapes-zeros shapes).lengths; bytes = (HasShapes-zeros shapes).bytes; kinds = new_kinds shapes }
 
+-- a world is fine with its own numbers of tasks and CPUs
+fine_now : (n : ℕ) (on : List (Option ℕ)) (w : WorldState) → IsFine n 0 0 None on w → IsFine (length w.tasks) 0 0 None w.cpus w
+fine_now n on w h =
+    let here : IsFine n 0 0 None w.cpus w = subst (λ (cs : List (Option ℕ)). IsFine n 0 0 None cs w) (sym h.sound.cpus) h in
+    subst (λ (m : ℕ). IsFine m 0 0 None w.cpus w) (sym h.sound.tasks) here
+
 -- ---- first states
 
 module _ (p : PolicyState) (tree : Hierarchy) (cpus : ℕ) where
@@ -197,19 +206,20 @@ module _ (p : PolicyState) (tree : Hierarchy) (cpus : ℕ) where
       (λ s h. record { policy = h.policy; notes = h.notes; tidy = (h.tidy.0, (h.tidy.1.0, h.tidy.1.1, λ plain. refl)); sound = h.sound; maps = h.maps })
       p tree t e blank_made
 
-  -- a first state is led to by no event
-  pub first_led : (s : SimState) → IsFirstState p tree cpus s → IsValid s.state 0 → IsLed p.shapes s s
-  first_led s first valid =
+  -- a first state is led to by no event, on a machine of a good shape
+  pub first_led : (s : SimState) → is_bad_shape tree cpus ≡ false → length tree.active ≡ length tree.homes → IsTimeout p.timeout_ms → IsFirstState p tree cpus s → IsLed p.shapes s s
+  first_led s shape flags timeout first =
       let h = first_made s.state first.0 in
+      let still = still_first p tree cpus s.state first.0 in
       record {
         policy = refl;
-        timeout = valid.timeout;
+        timeout = subst (λ (q : PolicyState). IsTimeout q.timeout_ms) (sym h.policy) timeout;
         size = record { tasks = refl; cpus = refl; room = refl; queues = refl; groups = refl; timers = refl };
         events = 0;
-        fine = valid.fine;
-        timely = valid.timely;
-        still = valid.still;
-        settled = valid.settled;
+        fine = fine_now (length tree.homes) (replicate cpus None) s.state.world (fine_started p tree cpus s.state shape flags first.0);
+        timely = time_started s.state.policy.timeout_ms p tree cpus s.state shape first.0;
+        still = still.0;
+        settled = still.1;
         rules = refl;
         quiet = (h.notes, λ force. refl);
         tidy = (h.tidy.0, ((refl, refl, refl, refl), h.tidy.1.1, h.tidy.1.2));

@@ -1,4 +1,4 @@
--- Which tasks sleep or are held: what a step on queues and CPUs makes of them, and that a task of a CPU isn't one.
+-- Tasks that sleep or are held: what a step on queues and CPUs makes of them, and that a task of a CPU isn't one.
 use Rattle.std.proofs.Common.{◌≡◌, ℕ, zero, suc, ◌+◌, ◌==◌, ◌&&◌, ◌||◌, ◌<◌, not, Bool, true, false, cond, is_none, is_some, List, [], ◌∷◌, length, set, get_or, position, Option, Some, None, option_map, refl, sym, ap, ◌∙◌, subst, arith, inl, inr}
 use Rattle.std.specs.List.{position_or_len}
 use Rattle.std.proofs.lemmas.Bool.{eqb-true, eq-eqb, lt-ltb}

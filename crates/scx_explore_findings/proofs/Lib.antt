@@ -1,11 +1,13 @@
 pub mod Records
 pub mod IdleRecords
 pub mod Omitting
-mod IdleTasks
+pub mod Leaving
+pub mod IdleTasks
 pub mod Worlds
 pub mod Helpers
 pub mod Runs
 pub mod Answered
+mod OwnTasks
 pub mod WorldSizes
 pub mod EventWalk
 pub mod EventSizes
@@ -17,6 +19,7 @@ pub mod CommonBeginnings
 pub mod PathFields
 pub mod PoolCopies
 pub mod Steps
+mod Begun
 pub mod Cycles
 pub mod Events
 mod AnyRounds
@@ -58,10 +61,22 @@ pub mod DelayedEvents
 pub mod DelayedMachines
 pub mod UnusedGroups
 pub mod GivenSlices
+pub mod Lent
 pub mod SameTold
 pub mod QueueWalk
 pub mod Led
+pub mod Clocks
+pub mod Stalling
 pub mod FirstLed
+pub mod CountedRecords
+mod CountedWorlds
+pub mod CountedRuns
+mod CountedSteps
+mod CountedCycles
+mod CountedEvents
+mod CountedTicks
+pub mod CountedMachines
+pub mod CountedShown
 mod Ending
 mod Running
 mod IdleCpus

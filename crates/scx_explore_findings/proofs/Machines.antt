@@ -4,21 +4,22 @@ use Rattle.scx_sched_world.specs.declared.notes.Note.{Note}
 use Rattle.scx_sched_machine.specs.declared.events.Event.{Event}
 use Rattle.scx_sched_machine.specs.declared.events.Refused.{Refused}
 use Rattle.scx_sched_machine.specs.declared.events.Refused.TheVariants.{RunOver}
-use Rattle.scx_sched_machine.specs.Steps.{State, Stepped}
+use Rattle.scx_sched_policy.specs.Policy.{PolicyState}
+use Rattle.scx_sched_machine.specs.Steps.{State, CallMade, Stepped}
 use Rattle.scx_sched_machine.specs.Events.{own_step, event_step}
 use Rattle.scx_sched.specs.Sim.{SimState, max_events, refusal, stepped_if, after_event, notes_if, notes_of, calls_if, calls_of}
 use Rattle.scx_load_driver.specs.Runs.{notes_of_all}
-use Rattle.scx_explore_findings.specs.Asked.{OwnCallsAsk}
+use Rattle.scx_explore_findings.specs.Asked.{CallsAsk}
 use Rattle.scx_explore_findings.specs.Hidden.{Hidden}
 use Rattle.scx_explore_findings.specs.HiddenStates.{late_in}
 use Rattle.scx_explore_findings.specs.HiddenMachines.{AreSame, AreUnread, AreAsLate, AnswersAlike}
 use Rattle.scx_explore_findings.specs.HiddenLaws.{EventsDontDepend, CallsDontDepend, ListsDontDepend}
 use Rattle.scx_explore_findings.specs.IdleSlices as slices
 use Rattle.scx_explore_findings.specs.IdleSlices.{any_task, EventsTellNoIdleSlices, CallsTellNoIdleSlices}
-use Rattle.scx_explore_findings.proofs.Omitting.{Omitted, omit_state, omit_call, omit_step}
-use Rattle.scx_explore_findings.proofs.Helpers.{IsTold}
-use Rattle.scx_explore_findings.proofs.Runs.{own_of_all}
-use Rattle.scx_explore_findings.proofs.Steps.{TellNothing, Tells}
+use Rattle.scx_explore_findings.proofs.Omitting.{Omitted, in_call, omit_state, omit_call, omit_step, among_call}
+use Rattle.scx_explore_findings.proofs.Helpers.{IsTold, told_among}
+use Rattle.scx_explore_findings.proofs.Runs.{own_calls_more, own_of_all}
+use Rattle.scx_explore_findings.proofs.Steps.{TellNothing, AskNone, Tells}
 use Rattle.scx_explore_findings.proofs.Events.{refusal_same, late_same}
 use Rattle.scx_explore_findings.proofs.AnyRounds.{passes_event}
 use Rattle.scx_explore_findings.proofs.LeftOut.{omit_machine, parts_alone, parts_machine, parts_same, parts_calls, slices_alone, slices_machine, slices_same, slices_unread, slices_asked, parts_asked}
@@ -36,10 +37,10 @@ module _ (h : Omitted) where
 
     -- no program of the policy asks for what is left out, or none of its programs that is called in the first machine
     abbrev pub Known : Type 0
-    Known = TellNothing h s.state.policy ⊎ OwnCallsAsk (IsTold h) s.state.policy (calls_of s e)
+    Known = TellNothing h s.state.policy ⊎ AskNone h s.state.policy (calls_of s e)
 
     -- the same task or none waits too long in both
-    abbrev Late : Type 0
+    abbrev pub Late : Type 0
     Late = Tells h s.state.policy (own_step s.state e) (own_step t.state e) → late_in s.state e ≡ late_in t.state e
 
     module _ (known : Known) (late : Late) where
@@ -49,7 +50,7 @@ module _ (h : Omitted) where
         where
           go : Known → Tells h s.state.policy (event_step s.state e) (event_step t.state e)
           go (inl tells) = inl tells
-          go (inr asks) = inr (inl (subst (λ (o : Option Refused). OwnCallsAsk (IsTold h) s.state.policy (calls_if o s e)) ok asks))
+          go (inr asks) = inr (inl (subst (λ (o : Option Refused). AskNone h s.state.policy (calls_if o s e)) ok asks))
 
       accepted_is : refusal s e ≡ None → (omit_step h (event_step s.state e) ≡ omit_step h (event_step t.state e)) × ((event_step s.state e).state.policy ≡ s.state.policy)
       accepted_is ok = passes_event h s.state.policy e s.state t.state (ap (λ (x : SimState). x.state) same) refl late (tells_accepted ok)
@@ -63,7 +64,7 @@ module _ (h : Omitted) where
           go (Some r) ok = refl
 
       -- the machines after the event are the same again
-      after_there : omit_machine h (after_event s e) ≡ omit_machine h (after_event t e)
+      pub after_there : omit_machine h (after_event s e) ≡ omit_machine h (after_event t e)
       after_there = go (refusal s e) refl ∙ ap (λ (o : Option Refused). omit_machine h (stepped_if o t e)) refusal_there
         where
           of_parts : State → ℕ → SimState
@@ -88,6 +89,11 @@ module _ (h : Omitted) where
           go : (o : Option Refused) → refusal s e ≡ o → map (omit_call h) (calls_if o s e) ≡ map (omit_call h) (calls_if o t e)
           go None ok = ap (λ (r : Stepped). r.calls) (accepted_is ok).0
           go (Some r) ok = refl
+
+-- if all calls ask for nothing that is left out, those of a policy don't
+none_of_all : (h : Omitted) (p : PolicyState) (cs : List CallMade) → CallsAsk (IsTold h) cs → AskNone h p cs
+none_of_all h p cs asks =
+    own_calls_more (λ c. IsTold h) (λ c. IsTold (in_call h c)) (λ c. told_among h (in_call h c).idle (among_call h c.callback c.arguments)) p cs (own_of_all (IsTold h) p cs asks)
 
 -- so both go alike, if since when tasks wait isn't left out
 pub late_alike : (h : Omitted) → h.parts.waits ≡ false → (s t : SimState) (same : omit_machine h s ≡ omit_machine h t) (e : Event) → Known h s t same e → omit_machine h (after_event s e) ≡ omit_machine h (after_event t e)
@@ -130,7 +136,7 @@ events_dont_depend h s t e unread same late = answers h s t e same late (parts_t
 
 -- so they do where no callback that one of them calls asks for it
 pub calls_dont_depend : CallsDontDepend
-calls_dont_depend h s t e asks same late = answers h s t e same late (inr (own_of_all (IsTold (parts_alone h)) s.state.policy (calls_of s e) (parts_asked h (calls_of s e) asks)))
+calls_dont_depend h s t e asks same late = answers h s t e same late (inr (none_of_all (parts_alone h) s.state.policy (calls_of s e) (parts_asked h (calls_of s e) asks)))
 
 -- and a list of events
 pub lists_dont_depend : ListsDontDepend
@@ -166,4 +172,4 @@ events_tell_no_idle_slices s t e tells same =
 
 -- so they do where no callback that one of them calls tells such a slice
 pub calls_tell_no_idle_slices : CallsTellNoIdleSlices
-calls_tell_no_idle_slices s t e asks same = answers_sliceless s t e same (inr (own_of_all (IsTold (slices_alone any_task)) s.state.policy (calls_of s e) (slices_asked any_task (calls_of s e) asks)))
+calls_tell_no_idle_slices s t e asks same = answers_sliceless s t e same (inr (none_of_all (slices_alone any_task) s.state.policy (calls_of s e) (slices_asked any_task (calls_of s e) asks)))

@@ -52,6 +52,15 @@ none_late_then s l =
     let limit : (once_later s).state.policy.timeout_ms ≡ s.policy.timeout_ms = ap (λ (p : PolicyState). p.timeout_ms) (g.policy ∙ h.policy) in
     none_late (once_later s).state (omega (arith, l, g.clock, h.clock, limit))
 
+-- before the clock reaches the limit no event finds a task that has waited too long
+pub none_late_in : (s : State) (e : Event) → s.world.clock < s.policy.timeout_ms → late_in s e ≡ None
+none_late_in s (Wake t) few = refl
+none_late_in s (Sleep t) few = refl
+none_late_in s (Tick c) few = refl
+none_late_in s Clock few = none_late_then s few
+none_late_in s (SetWeight g x) few = refl
+none_late_in s (SetTaskWeight t x) few = refl
+
 -- ---- after a list of events
 
 -- after that many events all is fine, and the policy is that one
@@ -79,18 +88,9 @@ after_first root events valid all = after_list (length root.state.world.tasks) 0
 
 -- after fewer events than a task may wait milliseconds, no task has waited too long
 pub late_none : (n k : ℕ) (p : PolicyState) (s : SimState) (e : Event) → IsAfter n k p s → k < p.timeout_ms → late_in s.state e ≡ None
-late_none n k p s e h few = go e
-  where
-    limit : s.state.policy.timeout_ms ≡ p.timeout_ms
-    limit = ap (λ (q : PolicyState). q.timeout_ms) h.policy
-
-    go : (v : Event) → late_in s.state v ≡ None
-    go (Wake t) = refl
-    go (Sleep t) = refl
-    go (Tick c) = refl
-    go Clock = none_late_then s.state (omega (arith, few, h.fine.clock, limit))
-    go (SetWeight g x) = refl
-    go (SetTaskWeight t x) = refl
+late_none n k p s e h few =
+    let limit : s.state.policy.timeout_ms ≡ p.timeout_ms = ap (λ (q : PolicyState). q.timeout_ms) h.policy in
+    none_late_in s.state e (omega (arith, few, h.fine.clock, limit))
 
 -- so it is after a list of events
 pub nobody_is_late : NobodyIsLate

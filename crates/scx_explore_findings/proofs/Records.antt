@@ -20,6 +20,29 @@ alike_if {A} {B} f b c x x' y y' e p q = subst (λ (d : Bool). f (cond b x y) �
     go true = p
     go false = q
 
+-- what a change leaves of a record doesn't depend on what is left out of it
+abbrev pub KeepsLess : (Task → Task) → (Task → Task) → Type 0
+KeepsLess less g = (x : Task) → less (g x) ≡ less (g (less x))
+
+-- changes of which that holds, if it does of another virtual time
+module _ (less : Task → Task) (again : (x : Task) → less x ≡ less (less x)) (vtime : (n : ℕ) → KeepsLess less (λ x. with_vtime x n)) where
+  given_vtime_stays : (r : Rank) → KeepsLess less (λ x. given_vtime x r)
+  given_vtime_stays Fifo x = again x
+  given_vtime_stays Front x = again x
+  given_vtime_stays (Vtime n) x = vtime n x
+
+  -- an insert, if it does of the slice that is given
+  pub insert_stays : (i : Insert) → KeepsLess less (λ x. given_slice x i) → KeepsLess less (λ x. task_after_insert x i)
+  insert_stays i slice x =
+      given_vtime_stays i.rank (given_slice x i) ∙ ap (λ (y : Task). less (given_vtime y i.rank)) (slice x)
+      ∙ sym (given_vtime_stays i.rank (given_slice (less x) i))
+
+  -- a program's store to a field, if it does of another slice
+  pub store_stays : ((n : ℕ) → KeepsLess less (λ x. with_slice x n)) → (f : Field) (n : ℕ) → KeepsLess less (λ x. stored_in x f n)
+  store_stays slice Slice n x = slice n x
+  store_stays slice DsqVtime n x = vtime n x
+  store_stays slice f n x = again x
+
 module _ (h : Hidden) where
   twice : (b : Bool) (n : ℕ) → unless b n ≡ unless b (unless b n)
   twice true n = refl
@@ -56,7 +79,7 @@ module _ (h : Hidden) where
 
   -- what is shown of a changed record doesn't depend on what is hidden
   abbrev pub Keeps : (Task → Task) → Type 0
-  Keeps g = (x : Task) → hidden_in h (g x) ≡ hidden_in h (g (hidden_in h x))
+  Keeps g = KeepsLess (hidden_in h) g
 
   -- ---- changes of a record
 
@@ -106,24 +129,13 @@ module _ (h : Hidden) where
   keeps_given_slice : (i : Insert) → Keeps (λ x. given_slice x i)
   keeps_given_slice i x = alike_if (hidden_in h) (i.slice == 0) (i.slice == 0) _ _ (with_slice x i.slice) (with_slice (hidden_in h x) i.slice) refl (keeps_refilled i.refills x) (keeps_slice i.slice x)
 
-  keeps_given_vtime : (r : Rank) → Keeps (λ x. given_vtime x r)
-  keeps_given_vtime Fifo x = again x
-  keeps_given_vtime Front x = again x
-  keeps_given_vtime (Vtime n) x = keeps_vtime n x
-
-  -- one change after another
-  keeps_both : (f g : Task → Task) → Keeps f → Keeps g → Keeps (λ x. g (f x))
-  keeps_both f g k l x = l (f x) ∙ ap (λ (y : Task). hidden_in h (g y)) (k x) ∙ sym (l (f (hidden_in h x)))
-
   -- it is inserted somewhere
   pub keeps_insert : (i : Insert) → Keeps (λ x. task_after_insert x i)
-  keeps_insert i = keeps_both (λ x. given_slice x i) (λ x. given_vtime x i.rank) (keeps_given_slice i) (keeps_given_vtime i.rank)
+  keeps_insert i = insert_stays (hidden_in h) again keeps_vtime i (keeps_given_slice i)
 
   -- a program stores to a field of it
   pub keeps_store : (f : Field) (n : ℕ) → Keeps (λ x. stored_in x f n)
-  keeps_store Slice n x = keeps_slice n x
-  keeps_store DsqVtime n x = keeps_vtime n x
-  keeps_store f n x = again x
+  keeps_store = store_stays (hidden_in h) again keeps_vtime keeps_slice
 
   -- ---- lists of records
 

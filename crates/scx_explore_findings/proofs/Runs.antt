@@ -1,5 +1,5 @@
 -- A run that asks nothing of what is left out doesn't depend on it, and what one that gives slices wants to insert has one.
-use Rattle.std.proofs.Common.{◌≡◌, ℕ, zero, suc, true, false, List, [], ◌∷◌, map, Option, Some, None, refl, sym, ap, ◌∙◌, subst, inl, inr}
+use Rattle.std.proofs.Common.{◌≡◌, ℕ, zero, suc, Bool, true, false, List, [], ◌∷◌, map, Option, Some, None, refl, sym, ap, ◌∙◌, subst, inl, inr}
 use Rattle.scx_isa_semantics.specs.declared.callbacks.Callback.{Callback}
 use Rattle.scx_isa_semantics.specs.declared.host_tables.Field.{Field}
 use Rattle.scx_isa_semantics.specs.declared.host_tables.Field.TheVariants.{Slice}
@@ -24,10 +24,10 @@ use Rattle.scx_explore_states.specs.Asking.{LoadsNo, GivesOne}
 use Rattle.scx_explore_states.proofs.Queries.{StepsOpen, MayAskAt, of_step}
 use Rattle.scx_explore_findings.specs.Asked.{StepAnyhow, AnyhowWithin, AsksAnyhow, IfAsksAnyhow, StepAsks, AsksWithin, CallAsks, CallsAsk, OwnCallsAsk}
 use Rattle.scx_explore_findings.specs.Hidden.{Hidden}
-use Rattle.scx_explore_findings.specs.Unread.{is_hidden_field, ReadsNone, may_read, IsUnread, SuchProgramsReadNone}
-use Rattle.scx_explore_findings.specs.IdleSlices.{is_idle, is_slice, loads_slice, LoadsBusy, TellsNoSlice, SuchProgramsTellNoSlices}
-use Rattle.scx_explore_findings.proofs.Omitting.{Omitted, omit, omit_call, IfAny, if_any, if_both}
-use Rattle.scx_explore_findings.proofs.Helpers.{IsTold, answer_same, hides_query, Wants, wants_query}
+use Rattle.scx_explore_findings.specs.Unread.{is_some_field, loads_some, is_hidden_field, ReadsNone, may_read, IsUnread, SuchProgramsReadNone}
+use Rattle.scx_explore_findings.specs.IdleSlices.{is_idle_of, is_slice, TellsNoSlice, SuchProgramsTellNoSlices}
+use Rattle.scx_explore_findings.proofs.Omitting.{Omitted, omit, in_call, omit_call, IfAny, if_any, if_both}
+use Rattle.scx_explore_findings.proofs.Helpers.{LoadsBusyOf, IsTold, answer_same, hides_query, Wants, wants_query}
 
 abbrev ended : Option ℕ → Machine → WorldState → Ending WorldState
 ended n m w = record { answer = n; maps = m.maps; outside = w }
@@ -62,7 +62,7 @@ module _ (P : Query → Type 0) (R : WorldState → Query → Type 0) (is : (w :
 
 -- what a run asks it asks of a weaker sort too
 module _ (P R : WorldState → Query → Type 0) (is : (w : WorldState) (q : Query) → P w q → R w q) where
-  asks_more : (c : Callback) (code : Code) (n s : ℕ) (m : Machine) (w : WorldState) → AsksWithin P c code n s m w → AsksWithin R c code n s m w
+  pub asks_more : (c : Callback) (code : Code) (n s : ℕ) (m : Machine) (w : WorldState) → AsksWithin P c code n s m w → AsksWithin R c code n s m w
   asks_more c code zero s m w asks = tt
   asks_more c code (suc n) s m w asks = go (step c code s m) asks (λ t k v a. asks_more c code n t k v a)
     where
@@ -77,13 +77,16 @@ module _ (P R : WorldState → Query → Type 0) (is : (w : WorldState) (q : Que
   calls_more [] a = tt
   calls_more (c ∷ cs) a = (λ n. asks_more c.callback c.program.code n 0 (start (program_arguments c.arguments) c.maps) c.world (a.0 n), calls_more cs a.1)
 
-  -- and those of a policy
-  pub own_calls_more : (p : PolicyState) (cs : List CallMade) → OwnCallsAsk P p cs → OwnCallsAsk R p cs
-  own_calls_more p [] a = tt
-  own_calls_more p (c ∷ cs) a = (λ own n. asks_more c.callback c.program.code n 0 (start (program_arguments c.arguments) c.maps) c.world (a.0 own n), own_calls_more p cs a.1)
+-- and those of a policy
+pub own_calls_more : (P R : CallMade → WorldState → Query → Type 0) → ((c : CallMade) (w : WorldState) (q : Query) → P c w q → R c w q) → (p : PolicyState) (cs : List CallMade) → OwnCallsAsk P p cs → OwnCallsAsk R p cs
+own_calls_more P R is p [] a = tt
+own_calls_more P R is p (c ∷ cs) a = (
+  λ own n. asks_more (P c) (R c) (is c) c.callback c.program.code n 0 (start (program_arguments c.arguments) c.maps) c.world (a.0 own n),
+  own_calls_more P R is p cs a.1,
+)
 
 -- if all calls ask such queries alone, those of a policy do
-pub own_of_all : (P : WorldState → Query → Type 0) (p : PolicyState) (cs : List CallMade) → CallsAsk P cs → OwnCallsAsk P p cs
+pub own_of_all : (P : WorldState → Query → Type 0) (p : PolicyState) (cs : List CallMade) → CallsAsk P cs → OwnCallsAsk (λ c. P) p cs
 own_of_all P p [] a = tt
 own_of_all P p (c ∷ cs) a = (λ own. a.0, own_of_all P p cs a.1)
 
@@ -101,7 +104,7 @@ module _ (P : Query → Type 0) (all : (q : Query) → P q) where
 
 -- what holds of all that steps of a program ask, a run asks alone, whatever is answered
 module _ (P : Query → Type 0) (stores : (t : TaskId) (f : Field) (n : ℕ) → P (Store t f n)) (c : Callback) (code : Code) (may : (slot : ℕ) → MayAskAt P stores c (at code slot)) where
-  asks_by_code : (n s : ℕ) (m : Machine) → AnyhowWithin P c code n s m
+  pub asks_by_code : (n s : ℕ) (m : Machine) → AnyhowWithin P c code n s m
   asks_by_code zero s m = tt
   asks_by_code (suc n) s m = go (step c code s m) (of_step P stores c code may s m) (λ t k. asks_by_code n t k)
     where
@@ -142,13 +145,13 @@ such_programs_read_none h p unread b = go (program_of p b) (unread b)
 apart : true ≡ false → ⊥
 apart e = absurd (cc)
 
-no_slice : (f : Field) → is_slice (Some f) ≡ false → (t : TaskId) → LoadsNo Slice (Load t f)
+no_slice : (f : Field) → is_slice f ≡ false → (t : TaskId) → LoadsNo Slice (Load t f)
 no_slice Slice e t = absurd (apart e)
 no_slice f e t = refl
 
-slices_by_code : (c : Callback) (o : Option Insn) → loads_slice o ≡ false → MayAskAt (LoadsNo Slice) (λ t f n. tt) c o
+slices_by_code : (c : Callback) (o : Option Insn) → loads_some is_slice o ≡ false → MayAskAt (LoadsNo Slice) (λ t f n. tt) c o
 slices_by_code c None e = tt
-slices_by_code c (Some (insn.Load a d b offset)) e = λ t f is. no_slice f (subst (λ (x : Option Field). is_slice x ≡ false) is e) t
+slices_by_code c (Some (insn.Load a d b offset)) e = λ t f is. no_slice f (subst (λ (x : Option Field). is_some_field is_slice x ≡ false) is e) t
 slices_by_code c (Some (insn.Call k)) e = (λ f v is free. tt, λ f is free. tt)
 slices_by_code c (Some i) e = tt
 
@@ -157,11 +160,11 @@ pub such_programs_tell_no_slices : SuchProgramsTellNoSlices
 such_programs_tell_no_slices c code none given n a maps =
     asks_both (LoadsNo Slice) GivesOne c code n 0 (start a maps) (asks_by_code (LoadsNo Slice) (λ t f k. tt) c code (λ slot. slices_by_code c (at code slot) (none slot)) n 0 (start a maps)) (given n a maps)
 
-pub busy_load : (w : WorldState) (q : Query) → LoadsNo Slice q → LoadsBusy w q
-busy_load w (Load t Slice) e = absurd (apart e)
-busy_load w (Load t f) e = tt
-busy_load w (Call f a) e = tt
-busy_load w (Store t f n) e = tt
+pub busy_load : (d : ℕ → Bool) (w : WorldState) (q : Query) → LoadsNo Slice q → LoadsBusyOf d w q
+busy_load d w (Load t Slice) e = absurd (apart e)
+busy_load d w (Load t f) e = tt
+busy_load d w (Call f a) e = tt
+busy_load d w (Store t f n) e = tt
 
 -- ---- what is left out
 
@@ -170,14 +173,14 @@ module _ (h : Omitted) where
   pub program_tells : (c : Callback) (code : Code) → AsksAnyhow (ReadsNone h.parts) c code → IfAny h.idle (AsksAnyhow TellsNoSlice c code) → (n : ℕ) (a : Arguments) (maps : Maps) (w : WorldState) → AsksWithin (IsTold h) c code n 0 (start a maps) w
   program_tells c code reads (inl none) n a maps w = asks_so (ReadsNone h.parts) (IsTold h) (λ v q k. (k, inl none)) c code n 0 (start a maps) w (reads n a maps)
   program_tells c code reads (inr tells) n a maps w =
-      asks_so (λ q. ReadsNone h.parts q × TellsNoSlice q) (IsTold h) (λ v q k. (k.0, inr (busy_load v q k.1.0, k.1.1))) c code n 0 (start a maps) w
+      asks_so (λ q. ReadsNone h.parts q × TellsNoSlice q) (IsTold h) (λ v q k. (k.0, inr (busy_load h.idle v q k.1.0, k.1.1))) c code n 0 (start a maps) w
       (asks_both (ReadsNone h.parts) TellsNoSlice c code n 0 (start a maps) (reads n a maps) (tells n a maps))
 
   -- ---- two worlds that are the same but for that
 
   module _ (v w : WorldState) (same : omit h v ≡ omit h w) where
-    busy_there : (q : Query) → LoadsBusy v q → LoadsBusy w q
-    busy_there (Load t Slice) k = subst (λ (x : WorldState). is_idle x t.0 ≡ false) same k
+    busy_there : (q : Query) → LoadsBusyOf h.idle v q → LoadsBusyOf h.idle w q
+    busy_there (Load t Slice) k = subst (λ (x : WorldState). is_idle_of h.idle x t.0 ≡ false) same k
     busy_there (Load t f) k = tt
     busy_there (Call f a) k = tt
     busy_there (Store t f n) k = tt
@@ -212,32 +215,36 @@ module _ (h : Omitted) where
       )
       go (Ends x) a more = tt
 
-  -- so do callbacks that are called
-  call_there : (c d : CallMade) → omit_call h c ≡ omit_call h d → CallAsks (IsTold h) c → CallAsks (IsTold h) d
-  call_there c d same asks n =
-      subst (λ (x : CallMade). AsksWithin (IsTold h) x.callback x.program.code n 0 (started x) d.world) same
-      (asks_there c.callback c.program.code n 0 (started c) c.world d.world (ap (λ (x : CallMade). x.world) same) (asks n))
-    where
-      started : CallMade → Machine
-      started x = start (program_arguments x.arguments) x.maps
+-- so do callbacks that are called
+call_there : (h : Omitted) (c d : CallMade) → omit_call h c ≡ omit_call h d → CallAsks (IsTold (in_call h c)) c → CallAsks (IsTold (in_call h d)) d
+call_there h c d same asks n =
+    subst (λ (x : CallMade). AsksWithin (IsTold (in_call h x)) x.callback x.program.code n 0 (started x) d.world) same
+    (asks_there (in_call h c) c.callback c.program.code n 0 (started c) c.world d.world worlds (asks n))
+  where
+    started : CallMade → Machine
+    started x = start (program_arguments x.arguments) x.maps
 
-  pub calls_there : (p : PolicyState) (cs ds : List CallMade) → map (omit_call h) cs ≡ map (omit_call h) ds → OwnCallsAsk (IsTold h) p cs → OwnCallsAsk (IsTold h) p ds
-  calls_there p [] [] same asks = tt
-  calls_there p [] (d ∷ ds) same asks = absurd (cc)
-  calls_there p (c ∷ cs) [] same asks = absurd (cc)
-  calls_there p (c ∷ cs) (d ∷ ds) same asks = (
-    λ own. call_there c d (first same) (asks.0 (subst (λ (x : CallMade). program_of p x.callback ≡ Some x.program) (sym (first same)) own)),
-    calls_there p cs ds (rest same) asks.1,
-  )
-    where
-      first : omit_call h c ∷ map (omit_call h) cs ≡ omit_call h d ∷ map (omit_call h) ds → omit_call h c ≡ omit_call h d
-      first e = cc
+    worlds : omit (in_call h c) c.world ≡ omit (in_call h c) d.world
+    worlds = ap (λ (x : CallMade). x.world) same ∙ ap (λ (x : CallMade). omit (in_call h x) d.world) (sym same)
 
-      rest : omit_call h c ∷ map (omit_call h) cs ≡ omit_call h d ∷ map (omit_call h) ds → map (omit_call h) cs ≡ map (omit_call h) ds
-      rest e = cc
+pub calls_there : (h : Omitted) (p : PolicyState) (cs ds : List CallMade) → map (omit_call h) cs ≡ map (omit_call h) ds → OwnCallsAsk (λ c. IsTold (in_call h c)) p cs → OwnCallsAsk (λ c. IsTold (in_call h c)) p ds
+calls_there h p [] [] same asks = tt
+calls_there h p [] (d ∷ ds) same asks = absurd (cc)
+calls_there h p (c ∷ cs) [] same asks = absurd (cc)
+calls_there h p (c ∷ cs) (d ∷ ds) same asks = (
+  λ own. call_there h c d (first same) (asks.0 (subst (λ (x : CallMade). program_of p x.callback ≡ Some x.program) (sym (first same)) own)),
+  calls_there h p cs ds (rest same) asks.1,
+)
+  where
+    first : omit_call h c ∷ map (omit_call h) cs ≡ omit_call h d ∷ map (omit_call h) ds → omit_call h c ≡ omit_call h d
+    first e = cc
 
-  -- ---- how a run ends
+    rest : omit_call h c ∷ map (omit_call h) cs ≡ omit_call h d ∷ map (omit_call h) ds → map (omit_call h) cs ≡ map (omit_call h) ds
+    rest e = cc
 
+-- ---- how a run ends
+
+module _ (h : Omitted) where
   -- but for what is left out
   abbrev pub omit_ending : Ending WorldState → Ending WorldState
   omit_ending e = record e { outside = omit h e.outside }
@@ -252,8 +259,8 @@ module _ (h : Omitted) where
       go Stuck a more = ap (λ (x : WorldState). ended None m x) same
       go (Goes t k) a more = more t k v w same a
       go (Asks q t on) a more =
-          more t (on (answer v q)) (left v q) (left w q) (left_alike v w same q a.0) a.1
-          ∙ ap (λ (x : Value). omit_ending (ran c code n t (on x) (left w q))) (answers_alike v w same q a.0)
+          more t (on (answer v q)) (left v q) (left w q) (left_alike h v w same q a.0) a.1
+          ∙ ap (λ (x : Value). omit_ending (ran c code n t (on x) (left w q))) (answers_alike h v w same q a.0)
       go (Ends x) a more = ap (λ (u : WorldState). ended (Some x) m u) same
 
   -- where its run in one of them asks nothing of it, a program ends alike in both

@@ -15,13 +15,12 @@ use Rattle.scx_sched_machine.specs.declared.events.Event.{Event}
 use Rattle.scx_sched_machine.specs.Steps.{State}
 use Rattle.scx_sched.specs.Sim.{SimState}
 use Rattle.scx_explore_states.specs.declared.form.Form.{Form}
-use Rattle.scx_explore_states.specs.Rows.{bit_of, kept, waiting_key, by_vtime_in, is_by_vtime, is_ahead, ahead_of, entries_of, place_of, is_idle, spot_of, row_of, no_row, task_row, rows_of}
+use Rattle.scx_explore_states.specs.Rows.{bit_of, kept, slice_kept, waiting_key, by_vtime_in, is_by_vtime, is_ahead, ahead_of, entries_of, place_of, is_idle, spot_of, row_of, no_row, task_row, rows_of}
 use Rattle.scx_explore_states.specs.Words.{number_in}
 use Rattle.scx_explore_states.specs.NotZero.{kept_words}
 use Rattle.scx_explore_states.specs.Written.{kept_word, task_words, used_words, usage_words, flags_word, flags_words, alarm_words, timer_words, linux_words, past_tick, map_words, state_words, AreKnown, IsWritten}
-use Rattle.scx_explore_findings.specs.Findings.{is_left, leaves_global, waits_left, IsFirstLeft, IsIdleBehind}
+use Rattle.scx_explore_findings.specs.Findings.{is_left, leaves_global, waits_left, IsIdleBehind}
 use Rattle.scx_explore_findings.specs.declared.finding.Finding.{Finding}
-use Rattle.scx_explore_findings.specs.declared.finding.Finding.TheVariants as finding
 use Rattle.scx_explore_findings.specs.QueueOrder.{rank_left, unnumbered, leads}
 use Rattle.scx_explore_findings.specs.UnreadParts.{Parts, Fits, AreSame, SuchPartsShowNothing, parts_of, with_parts}
 use Rattle.scx_explore_findings.proofs.SameQueues.{queue_same}
@@ -131,7 +130,7 @@ module _ (f : Form) (no_pushes : f.pushes ≡ false) (ids : List ℕ) (w : World
   row_same : (t : ℕ) → row_of f w t (entry_of w.queues t) (spot_of f w ids (entries_of w) t (entry_of w.queues t)) ≡ row_of f (with_parts w z) t (entry_of z.queues t) (spot_of f (with_parts w z) ids (entries_of (with_parts w z)) t (entry_of z.queues t))
   row_same t = λ i. record (row_of f w t (entry_of w.queues t) (spot_of f w ids (entries_of w) t (entry_of w.queues t))) {
     spot = min (kept f.waits (wait w t)) 65535 * 65536 + place_same t i * 256 + (task_at w t).prev_cpu % 16 * 16 + ahead_same t i * 2 + bit_of (vtime_same t i);
-    slice = kept (f.idle_slices || not (idle_same_at t i)) (task_at w t).slice;
+    slice = kept (f.idle_slices || not (idle_same_at t i)) (slice_kept f.slices (task_at w t).slice);
     key = kept f.keys (key_same t i);
   }
 

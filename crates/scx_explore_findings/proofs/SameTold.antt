@@ -24,7 +24,7 @@ use Rattle.scx_sched.specs.Once.{IsOnce, IsSound}
 use Rattle.scx_sched.specs.Ranges.{IsFresh}
 use Rattle.scx_sched.specs.Sim.{SimState}
 use Rattle.scx_explore_states.specs.declared.form.Form.{Form}
-use Rattle.scx_explore_states.specs.Rows.{kept, waiting_key, ahead_of, entries_of, place_of, is_idle}
+use Rattle.scx_explore_states.specs.Rows.{kept, bit_of, is_endless, slice_kept, waiting_key, ahead_of, entries_of, place_of, is_idle}
 use Rattle.scx_explore_states.specs.Telling.{AreOfOneShape, IsKeptAlike, KeepTheSame, place_at}
 use Rattle.scx_explore_states.specs.Words.{most_queues, number_in}
 use Rattle.scx_explore_states.specs.Written.{used_words, AreKnown, IsWritten}
@@ -48,6 +48,7 @@ use Rattle.scx_explore_findings.proofs.PlacesTold.{IsSmall, IsKnown, place_tells
 use Rattle.scx_explore_findings.proofs.CpusTold.{cpus_told}
 use Rattle.scx_explore_findings.proofs.TasksTold.{since_told, task_told}
 use Rattle.scx_explore_findings.proofs.MapsTold.{last_two}
+use Rattle.scx_explore_findings.proofs.Lent.{lent_slice, lent_is, lent_at, lent, lent_task, lent_long}
 use Rattle.scx_explore_findings.proofs.KeysTold.{maps_told}
 use Rattle.scx_explore_findings.proofs.RunsTold.{cpu_there, run_once, runner_waits_not, runnable_told}
 use Rattle.scx_explore_findings.proofs.WorldSizes.{HasSize}
@@ -98,6 +99,10 @@ min_is x y l m e = omega (arith, l, m, e)
 
 home_is : (x y c d : ℕ) → x < c → c ≤ 16 → y < d → d ≤ 16 → x % 16 ≡ y % 16 → x ≡ y
 home_is x y c d l m k n e = omega (arith, l, m, k, n, e)
+
+since_unless_same : (b : Bool) (x y : Option ℕ) → (b ≡ false → x ≡ y) → since_unless b x ≡ since_unless b y
+since_unless_same true x y k = refl
+since_unless_same false x y k = k refl
 
 below_eight : (u m : ℕ) → u < m → m ≤ 8 → u < 8
 below_eight u m l k = omega (arith, l, k)
@@ -229,9 +234,45 @@ row_is ids w once k = go (cpu_of w k) refl
         ap (λ (o : Option ℕ). is_idle (place_of ids o (entry_of w.queues k)) (entry_of w.queues k)) e
         ∙ (by (entry_of w.queues k) ∙ sym (ap (λ (b : Bool). not b && is_put_nowhere (entry_of w.queues k)) (none_on w.cpus k e)))
 
+bits_same : (a b : Bool) → bit_of a ≡ bit_of b → a ≡ b
+bits_same true true e = refl
+bits_same false false e = refl
+bits_same true false e = absurd (cc)
+bits_same false true e = absurd (cc)
+
+-- where slices are kept what is kept of two tells both
+whole_slice : (b : Bool) (x y : ℕ) → b ≡ true → slice_kept b x ≡ slice_kept b y → x ≡ y
+whole_slice true x y e same = same
+whole_slice false x y e same = absurd (false_isnt_so e)
+
+kept_ends : (c : Bool) (x y : ℕ) → slice_kept c x ≡ slice_kept c y → is_endless x ≡ is_endless y
+kept_ends true x y is = ap is_endless is
+kept_ends false x y is = bits_same (is_endless x) (is_endless y) is
+
+-- what is kept of a slice and of another one is the same of the other one and the one that is lent
+lent_kept : (c b d : Bool) (x y : ℕ) → b ≡ d → kept b (slice_kept c x) ≡ kept d (slice_kept c y) → kept b (lent_slice x y) ≡ kept d y
+lent_kept c b d x y e same = subst (λ (o : Bool). kept b (lent_slice x y) ≡ kept o y) e (go b (same ∙ ap (λ (o : Bool). kept o (slice_kept c y)) (sym e)))
+  where
+    go : (o : Bool) → kept o (slice_kept c x) ≡ kept o (slice_kept c y) → kept o (lent_slice x y) ≡ kept o y
+    go true is = lent_is x y (kept_ends c x y is)
+    go false is = refl
+
 -- ---- two machines
 
-module _ (Ask : (Query → Type 0) → PolicyState → Type 0) (shapes : List Shape) (root : SimState) (plain : IsPlain root) (f : Form) (ids xs : List ℕ) (whole : IsWholeBy Ask root.state.policy f) (few : length ids ≤ most_queues) (s t : SimState) (hs : IsSuited shapes root s) (ht : IsSuited shapes root t) (is : IsWritten f ids xs s) (it : IsWritten f ids xs t) where
+of_one_shape : (shapes : List Shape) (root s t : SimState) → IsSuited shapes root s → IsSuited shapes root t → AreOfOneShape s.state.world t.state.world
+of_one_shape shapes root s t hs ht = record {
+  tasks = sym hs.size.0 ∙ ht.size.0;
+  cpus = sym hs.size.1 ∙ ht.size.1;
+  timers = sym hs.size.5 ∙ ht.size.5;
+  groups = sym hs.tidy.1.0.0 ∙ ht.tidy.1.0.0;
+  rules = hs.rules ∙ sym ht.rules;
+}
+
+-- the same words keep the same, by a form that tells tasks apart
+pub words_keep : (shapes : List Shape) (root : SimState) (f : Form) (ids xs : List ℕ) → f.names ≡ true → length ids ≤ most_queues → (s t : SimState) → IsSuited shapes root s → IsSuited shapes root t → IsWritten f ids xs s → IsWritten f ids xs t → KeepTheSame f ids s t
+words_keep shapes root f ids xs names few s t hs ht is it = words_tell f ids xs s t names few (of_one_shape shapes root s t hs ht) is it
+
+module _ (Ask : (Query → Type 0) → PolicyState → Type 0) (Tell : PolicyState → Type 0) (shapes : List Shape) (root : SimState) (plain : IsPlain root) (f : Form) (ids : List ℕ) (whole : IsWholeBy Ask Tell root.state.policy f) (s t : SimState) (hs : IsSuited shapes root s) (ht : IsSuited shapes root t) (known : AreKnown ids (entries_of s.state.world)) (known_there : AreKnown ids (entries_of t.state.world)) (told : KeepTheSame f ids s t) where
   abbrev v : WorldState
   v = s.state.world
 
@@ -242,16 +283,7 @@ module _ (Ask : (Query → Type 0) → PolicyState → Type 0) (shapes : List Sh
   m = length root.state.world.tasks
 
   shape : AreOfOneShape v w
-  shape = record {
-    tasks = sym hs.size.0 ∙ ht.size.0;
-    cpus = sym hs.size.1 ∙ ht.size.1;
-    timers = sym hs.size.5 ∙ ht.size.5;
-    groups = sym hs.tidy.1.0.0 ∙ ht.tidy.1.0.0;
-    rules = hs.rules ∙ sym ht.rules;
-  }
-
-  told : KeepTheSame f ids s t
-  told = words_tell f ids xs s t whole.names few shape is it
+  shape = of_one_shape shapes root s t hs ht
 
   each : (k : ℕ) → k < m → IsKeptAlike f ids v w k
   each k l = told.tasks k (below_eight k m l plain.tasks) (subst (λ (j : ℕ). k < j) hs.size.0 l)
@@ -272,7 +304,7 @@ module _ (Ask : (Query → Type 0) → PolicyState → Type 0) (shapes : List Sh
   cpu_same : (k : ℕ) → k < m → cpu_of v k ≡ cpu_of w k
   cpu_same k l = place_tells_cpu ids (cpu_of v k) (cpu_of w k) (entry_of v.queues k) (entry_of w.queues k) (small v few_cpus k) (small w few_there k) (each k l).place
 
-  cpus_same : v.cpus ≡ w.cpus
+  pub cpus_same : v.cpus ≡ w.cpus
   cpus_same = cpus_told m v.cpus w.cpus shape.cpus (run_once v hs.sound.once m hs.sound.flags) (run_once w ht.sound.once m ht.sound.flags) cpu_same
 
   -- ---- queues
@@ -294,7 +326,7 @@ module _ (Ask : (Query → Type 0) → PolicyState → Type 0) (shapes : List Sh
           let there = entry_of w.queues k in
           let place : place_of ids None here ≡ place_of ids None there =
           ap (λ (c : Option ℕ). place_of ids c here) (sym e) ∙ ((each k l).place ∙ ap (λ (c : Option ℕ). place_of ids c there) (sym (cpu_same k l) ∙ e)) in
-          place_tells_entry ids here there (known_at ids v is.known k (below_eight k m l plain.tasks)) (known_at ids w it.known k (below_eight k m l plain.tasks)) place (each k l).by_vtime
+          place_tells_entry ids here there (known_at ids v known k (below_eight k m l plain.tasks)) (known_at ids w known_there k (below_eight k m l plain.tasks)) place (each k l).by_vtime
           (key_same k l)
 
   none_past : (u : ℕ) → m ≤ u → entry_of v.queues u ≡ None
@@ -374,26 +406,71 @@ module _ (Ask : (Query → Type 0) → PolicyState → Type 0) (shapes : List Sh
   clock_told e =
       quota_clock (has_quota v.tree.groups) (has_quota w.tree.groups) (used_words v.tree (length v.tree.groups)) (used_words w.tree (length w.tree.groups)) v.clock w.clock e (ap has_quota (sym shape.groups) ∙ e) told.usages
 
+  idle_same : (k : ℕ) → k < m → idle.is_idle v k ≡ idle.is_idle w k
+  idle_same k l =
+      ap (λ (cpus : List (Option ℕ)). not (runs_on k cpus) && is_put_nowhere (entry_of v.queues k)) cpus_same
+      ∙ ap (λ (b : Bool). not (runs_on k w.cpus) && b) (nowhere_told (entry_of v.queues k) (entry_of w.queues k) (place_same k l))
+
+  -- ---- slices of the other one
+
+  -- with its slices, as far as both end, the first one keeps the same by a form with slices
+  kept_same : (k : ℕ) → k < m → (f.idle_slices || not (is_idle (place_at v ids k) (entry_of v.queues k))) ≡ (f.idle_slices || not (is_idle (place_at w ids k) (entry_of w.queues k)))
+  kept_same k l = ap (λ (b : Bool). f.idle_slices || not b) (row_is ids v hs.sound.once k ∙ (idle_same k l ∙ sym (row_is ids w ht.sound.once k)))
+
+  retold_task : (k : ℕ) → k < 8 → k < length v.tasks → IsKeptAlike (record f { slices = true }) ids (lent s t).state.world w k
+  retold_task k few l =
+      let h = told.tasks k few l in
+      let there : k < m = subst (λ (j : ℕ). k < j) (sym hs.size.0) l in
+      let same = lent_task s t k in
+      record {
+        wait = ap (λ (x : Task). min (kept f.waits (time_since v.clock x.since)) 65535) same ∙ h.wait;
+        place = h.place;
+        prev_cpu = ap (λ (x : Task). x.prev_cpu % 16) same ∙ h.prev_cpu;
+        ahead = h.ahead;
+        by_vtime = h.by_vtime;
+        slice =
+            ap (kept (f.idle_slices || not (is_idle (place_at v ids k) (entry_of v.queues k)))) (lent_at v.tasks w.tasks k l shape.tasks)
+            ∙ lent_kept f.slices (f.idle_slices || not (is_idle (place_at v ids k) (entry_of v.queues k))) (f.idle_slices || not (is_idle (place_at w ids k) (entry_of w.queues k))) (task_at v k).slice (task_at w k).slice (kept_same k there) h.slice;
+        key = h.key;
+        vtime = ap (λ (x : Task). kept f.vtime x.vtime) same ∙ h.vtime;
+        run_ns = ap (λ (x : Task). kept f.run_ns x.run_ns) same ∙ h.run_ns;
+      }
+
+  -- of a task that isn't idle it is told whether its slice ends
+  pub ends_same : (k : ℕ) → k < m → idle.is_idle v k ≡ false → is_endless (task_at v k).slice ≡ is_endless (task_at w k).slice
+  ends_same k l busy =
+      let here = (f.idle_slices || not (is_idle (place_at v ids k) (entry_of v.queues k))) in
+      let there = (f.idle_slices || not (is_idle (place_at w ids k) (entry_of w.queues k))) in
+      let shown : here ≡ true = or_so f.idle_slices (not (is_idle (place_at v ids k) (entry_of v.queues k))) (ap not (row_is ids v hs.sound.once k ∙ busy)) in
+      kept_ends f.slices (task_at v k).slice (task_at w k).slice
+      (kept_is here there (slice_kept f.slices (task_at v k).slice) (slice_kept f.slices (task_at w k).slice) shown (sym (kept_same k l) ∙ shown) (each k l).slice)
+
+  pub retold : KeepTheSame (record f { slices = true }) ids (lent s t) t
+  retold = record {
+    tasks = λ k few l. retold_task k few (subst (λ (n : ℕ). k < n) (lent_long s t) l);
+    clock = told.clock;
+    random = told.random;
+    usages = told.usages;
+    rules = told.rules;
+    maps = told.maps;
+  }
+
   -- ---- once the first one is as late as the second one
 
   -- and without slices of tasks that sleep or are held, where the form leaves these out
-  module _ (less : Bool) (keeps : less ≡ false → f.idle_slices ≡ true) (d : ℕ) (later : v.clock + d ≡ w.clock) where
-    since_same : (k : ℕ) → k < m → later_by d (task_at v k).since ≡ (task_at w k).since
-    since_same k l =
+  module _ (less : Bool) (keeps : less ≡ false → f.idle_slices ≡ true) (slices : f.slices ≡ true) (d : ℕ) (later : v.clock + d ≡ w.clock) where
+    -- where waits aren't hidden
+    since_same : whole.hidden.waits ≡ false → (k : ℕ) → k < m → later_by d (task_at v k).since ≡ (task_at w k).since
+    since_same stay k l =
         let a = (task_at v k).since in
         let b = (task_at w k).since in
         let some : is_some a ≡ is_some b =
         hs.sound.waiting k ∙ (ap (λ (o : Option ℕ). waits_in o || is_this k None) (queue_same v.queues w.queues queues_same k) ∙ sym (ht.sound.waiting k)) in
         let waited : wait v k ≡ wait w k =
         min_is (wait v k) (wait w k) (hs.timely k) (ht.timely k)
-        (ap (λ (c : Bool). min (kept c (wait v k)) 65535) (sym whole.waits) ∙ ((each k l).wait ∙ ap (λ (c : Bool). min (kept c (wait w k)) 65535) whole.waits)) in
+        (ap (λ (c : Bool). min (kept c (wait v k)) 65535) (sym (whole.waits stay)) ∙ ((each k l).wait ∙ ap (λ (c : Bool). min (kept c (wait w k)) 65535) (whole.waits stay))) in
         since_told w.clock (later_by d a) b (subst (λ (c : ℕ). IsSince c (later_by d a)) later (still_since v.clock d a (hs.tidy.0 k))) (ht.tidy.0 k) (some_later d a ∙ some)
         (sym (as_late d v.clock a ∙ ap (λ (c : ℕ). time_since c (later_by d a)) later) ∙ waited)
-
-    idle_same : (k : ℕ) → k < m → idle.is_idle v k ≡ idle.is_idle w k
-    idle_same k l =
-        ap (λ (cpus : List (Option ℕ)). not (runs_on k cpus) && is_put_nowhere (entry_of v.queues k)) cpus_same
-        ∙ ap (λ (b : Bool). not (runs_on k w.cpus) && b) (nowhere_told (entry_of v.queues k) (entry_of w.queues k) (place_same k l))
 
     -- a task that isn't idle counts as one that runs or waits, so its slice is told
     kept_here : (x : WorldState) → IsOnce None x → (k : ℕ) → (less && idle.is_idle x k) ≡ false → (f.idle_slices || not (is_idle (place_at x ids k) (entry_of x.queues k))) ≡ true
@@ -405,14 +482,15 @@ module _ (Ask : (Query → Type 0) → PolicyState → Type 0) (shapes : List Sh
 
     slice_same : (k : ℕ) → k < m → (less && idle.is_idle v k) ≡ false → (task_at v k).slice ≡ (task_at w k).slice
     slice_same k l e =
-        kept_is (f.idle_slices || not (is_idle (place_at v ids k) (entry_of v.queues k))) (f.idle_slices || not (is_idle (place_at w ids k) (entry_of w.queues k))) (task_at v k).slice (task_at w k).slice
-        (kept_here v hs.sound.once k e) (kept_here w ht.sound.once k (sym (ap (λ (b : Bool). less && b) (idle_same k l)) ∙ e)) (each k l).slice
+        whole_slice f.slices (task_at v k).slice (task_at w k).slice slices
+        (kept_is (f.idle_slices || not (is_idle (place_at v ids k) (entry_of v.queues k))) (f.idle_slices || not (is_idle (place_at w ids k) (entry_of w.queues k))) (slice_kept f.slices (task_at v k).slice) (slice_kept f.slices (task_at w k).slice)
+        (kept_here v hs.sound.once k e) (kept_here w ht.sound.once k (sym (ap (λ (b : Bool). less && b) (idle_same k l)) ∙ e)) (each k l).slice)
 
     -- the record of a task without what is hidden
     task_same : (k : ℕ) → k < m → hidden_in whole.hidden (delayed_task d (sliceless_if (less && idle.is_idle v k) (task_at v k))) ≡ hidden_in whole.hidden (sliceless_if (less && idle.is_idle w k) (task_at w k))
     task_same k l =
         let h = each k l in
-        told_if (less && idle.is_idle v k) whole.hidden d (task_at v k) (task_at w k) (ap (since_unless whole.hidden.waits) (since_same k l)) (slice_same k l)
+        told_if (less && idle.is_idle v k) whole.hidden d (task_at v k) (task_at w k) (since_unless_same whole.hidden.waits (later_by d (task_at v k).since) (task_at w k).since (λ stay. since_same stay k l)) (slice_same k l)
         (unless_same whole.hidden.vtime (task_at v k).vtime (task_at w k).vtime (λ e. kept_is f.vtime f.vtime (task_at v k).vtime (task_at w k).vtime (whole.vtime e) (whole.vtime e) h.vtime))
         (home_is (task_at v k).prev_cpu (task_at w k).prev_cpu (length v.cpus) (length w.cpus) (hs.sound.homes k) few_cpus (ht.sound.homes k) few_there h.prev_cpu)
         (unless_same whole.hidden.run_ns (task_at v k).run_ns (task_at w k).run_ns (λ e. kept_is f.run_ns f.run_ns (task_at v k).run_ns (task_at w k).run_ns (whole.run_ns e) (whole.run_ns e) h.run_ns))

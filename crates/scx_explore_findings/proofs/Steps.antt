@@ -6,6 +6,7 @@ use Rattle.scx_isa_semantics.specs.declared.callbacks.Callback.{Callback}
 use Rattle.scx_isa_semantics.specs.declared.callbacks.Callback.TheVariants as callback
 use Rattle.scx_isa_semantics.specs.Elements.{Maps}
 use Rattle.scx_isa_semantics.specs.Endings.{Ending}
+use Rattle.scx_isa_semantics.specs.Machine.{start}
 use Rattle.scx_vm.specs.Programs.{VerifiedProgram}
 use Rattle.scx_vm.specs.Arguments.{program_arguments}
 use Rattle.scx_vm.specs.declared.arguments.Args.{Args}
@@ -25,19 +26,19 @@ use Rattle.scx_sched_machine.specs.Callbacks.{call_ending, after_callback, calls
 use Rattle.scx_sched_machine.specs.Put.{enters, enqueue_choice, enters_builtin, comes_in, put}
 use Rattle.scx_sched_machine.specs.Filling.{move_note, fill}
 use Rattle.scx_sched_machine.specs.Parking.{park, if_throttled, throttled_front, park_then, park_next, clear, in_reach, supply}
-use Rattle.scx_explore_findings.specs.Asked.{IfAsksAnyhow, AskAnyhow, OwnCallsAsk}
+use Rattle.scx_explore_findings.specs.Asked.{AsksWithin, IfAsksAnyhow, AskAnyhow, OwnCallsAsk}
 use Rattle.scx_explore_findings.specs.Unread.{ReadsNone}
 use Rattle.scx_sched_machine.proofs.Choices.{keeps_if}
 use Rattle.std.proofs.lemmas.Bool.{eqb-true}
 use Rattle.scx_sched_world.proofs.Fronts.{front_in}
 use Rattle.scx_sched.proofs.Seen.{next_seen}
-use Rattle.scx_explore_findings.specs.IdleSlices.{is_idle_of, TellsNoSlice, TellNoSlices}
+use Rattle.scx_explore_findings.specs.IdleSlices.{is_idle, is_idle_of, TellsNoSlice, TellNoSlices}
 use Rattle.scx_explore_findings.proofs.Records.{alike_if}
-use Rattle.scx_explore_findings.proofs.Omitting.{Omitted, omit, omit_state, omit_call, omit_step, IfAny, if_any}
+use Rattle.scx_explore_findings.proofs.Omitting.{Omitted, omit, but_at_hand, in_call, omit_state, omit_call, omit_step, IfAny, if_any, omit_as, IsOutAt, early_out, out_same, among_call}
 use Rattle.scx_explore_findings.proofs.IdleTasks.{queued_busy, MayEnter, Given, Held, may_enter}
 use Rattle.scx_explore_findings.proofs.Worlds.{Same, Hides, plain, both, throttled_same, hides_enter, hides_brought, hides_parked, hides_parked_from, hides_put_builtin, hides_move_over, move_notes_same, hides_cut}
-use Rattle.scx_explore_findings.proofs.Helpers.{IsTold, Wants}
-use Rattle.scx_explore_findings.proofs.Runs.{program_tells, calls_there, omit_ending, program_same, program_wants}
+use Rattle.scx_explore_findings.proofs.Helpers.{IsTold, any_among, told_among, Wants}
+use Rattle.scx_explore_findings.proofs.Runs.{asks_more, program_tells, calls_there, omit_ending, program_same, program_wants}
 
 -- no program asks for anything that is left out, whatever it is given and answered, and where slices are left out each
 -- insert gives one
@@ -80,9 +81,9 @@ eject_wants s x =
     cut_forgets (suc n) w h = let v = after_cut n w in task_forgets (running v n) v (cut_forgets n w h)
 
 module _ (h : Omitted) (p : PolicyState) where
-  -- no callback that is called asks for anything that is left out, if its program is the policy's
+  -- no callback that is called asks for anything that is left out in its world, if its program is the policy's
   abbrev pub AskNone : List CallMade → Type 0
-  AskNone cs = OwnCallsAsk (IsTold h) p cs
+  AskNone cs = OwnCallsAsk (λ c. IsTold (in_call h c)) p cs
 
   -- no program of the policy does, or none that is called in one of two steps
   abbrev pub Tells : Stepped → Stepped → Type 0
@@ -282,7 +283,7 @@ module _ (h : Omitted) (p : PolicyState) where
     where
       of_program : (o : Option VerifiedProgram) → IfAsksAnyhow (ReadsNone h.parts) b o → IfAny h.idle (IfAsksAnyhow TellsNoSlice b o) → AsksIn o b a s.maps w
       of_program None unread told = tt
-      of_program (Some q) unread told = (λ own n. program_tells h b q.code unread told n (program_arguments a) s.maps w, tt)
+      of_program (Some q) unread told = (λ own n. program_tells (but_at_hand h b a) b q.code unread (any_among (but_at_hand h b a).idle h.idle (among_call h b a) told) n (program_arguments a) s.maps w, tt)
 
       unless : (o : Option Eject) → AsksIn (unless_ejected o (program_of s.policy b)) b a s.maps w
       unless None = subst (λ (x : PolicyState). AsksIn (program_of x b) b a s.maps w) (sym is) (of_program (program_of p b) (tells.unread b) (if_any h.idle (λ told. told b) tells.told))
@@ -296,19 +297,24 @@ module _ (h : Omitted) (p : PolicyState) where
       unless None k = k
       unless (Some y) k = absurd (cc)
 
+  -- where no slice of a task at hand is left out it asks for nothing that is left out anywhere
+  asks_here : (b : Callback) (a : Args) → IsOutAt h b a → (q : VerifiedProgram) (maps : Maps) (w : WorldState) (n : ℕ) → AsksWithin (IsTold (but_at_hand h b a)) b q.code n 0 (start (program_arguments a) maps) w → AsksWithin (IsTold h) b q.code n 0 (start (program_arguments a) maps) w
+  asks_here b a out q maps w n asks =
+      asks_more (IsTold (but_at_hand h b a)) (IsTold h) (told_among (but_at_hand h b a) h.idle (λ u e. out_same h b a out u ∙ e)) b q.code n 0 (start (program_arguments a) maps) w asks
+
   -- how a callback ends
-  called_same : (q : Option VerifiedProgram) (b : Callback) → ((x : VerifiedProgram) → q ≡ Some x → program_of p b ≡ Some x) → (a : Args) (maps : Maps) (v w : WorldState) → omit h v ≡ omit h w → AsksIn q b a maps v → omit_ending h (call_ending q b a maps v) ≡ omit_ending h (call_ending q b a maps w)
+  called_same : (q : Option VerifiedProgram) (b : Callback) → ((x : VerifiedProgram) → q ≡ Some x → program_of p b ≡ Some x) → (a : Args) → IsOutAt h b a → (maps : Maps) (v w : WorldState) → omit h v ≡ omit h w → AsksIn q b a maps v → omit_ending h (call_ending q b a maps v) ≡ omit_ending h (call_ending q b a maps w)
   unfolding call_ending
-  called_same None b of a maps v w same asks = ap (λ (x : WorldState). record { answer = Some 0; maps = maps; outside = x }) same
-  called_same (Some q) b of a maps v w same asks = program_same h b q.code (program_arguments a) maps v w same (asks.0 (of q refl))
+  called_same None b of a out maps v w same asks = ap (λ (x : WorldState). record { answer = Some 0; maps = maps; outside = x }) same
+  called_same (Some q) b of a out maps v w same asks = program_same h b q.code (program_arguments a) maps v w same (λ n. asks_here b a out q maps v n (asks.0 (of q refl) n))
 
   -- what it wants to insert has a slice
-  called_wants : (q : Option VerifiedProgram) (b : Callback) → ((x : VerifiedProgram) → q ≡ Some x → program_of p b ≡ Some x) → (a : Args) (maps : Maps) (w : WorldState) → AsksIn q b a maps w → IfAny h.idle (Wants w.call.insert) → IfAny h.idle (Wants (call_ending q b a maps w).outside.call.insert)
+  called_wants : (q : Option VerifiedProgram) (b : Callback) → ((x : VerifiedProgram) → q ≡ Some x → program_of p b ≡ Some x) → (a : Args) → IsOutAt h b a → (maps : Maps) (w : WorldState) → AsksIn q b a maps w → IfAny h.idle (Wants w.call.insert) → IfAny h.idle (Wants (call_ending q b a maps w).outside.call.insert)
   unfolding call_ending
-  called_wants None b of a maps w asks k = k
-  called_wants (Some q) b of a maps w asks k = program_wants h b q.code (program_arguments a) maps w (asks.0 (of q refl)) k
+  called_wants None b of a out maps w asks k = k
+  called_wants (Some q) b of a out maps w asks k = program_wants h b q.code (program_arguments a) maps w (λ n. asks_here b a out q maps w n (asks.0 (of q refl) n)) k
 
-  module _ (b : Callback) (a : Args) (t c : ℕ) (s : State) (is : s.policy ≡ p) where
+  module _ (b : Callback) (a : Args) (t c : ℕ) (out : IsOutAt h b a) (s : State) (is : s.policy ≡ p) where
     -- the world as the callback begins
     abbrev begun : WorldState
     begun = at_callback s.world b t c
@@ -331,9 +337,9 @@ module _ (h : Omitted) (p : PolicyState) where
     asks_of (inr (inr k)) = inr (inr (called_first (acting s b) (omit h begun) (later_calls (omit h begun)) k))
 
     end_same : Asks → omit_ending h (call_ending (acting s b) b a s.maps begun) ≡ omit_ending h (call_ending (acting s b) b a s.maps (omit h begun))
-    end_same (inl tells) = called_same (acting s b) b (own s b is) a s.maps begun (omit h begun) (plain h begun) (tells_acting tells s b a begun is)
-    end_same (inr (inl k)) = called_same (acting s b) b (own s b is) a s.maps begun (omit h begun) (plain h begun) k
-    end_same (inr (inr k)) = sym (called_same (acting s b) b (own s b is) a s.maps (omit h begun) begun (sym (plain h begun)) k)
+    end_same (inl tells) = called_same (acting s b) b (own s b is) a out s.maps begun (omit h begun) (plain h begun) (tells_acting tells s b a begun is)
+    end_same (inr (inl k)) = called_same (acting s b) b (own s b is) a out s.maps begun (omit h begun) (plain h begun) k
+    end_same (inr (inr k)) = sym (called_same (acting s b) b (own s b is) a out s.maps (omit h begun) begun (sym (plain h begun)) k)
 
     -- what it answers
     pub answered_same : Tells (call_back s b a t c) (call_back (omit_state h s) b a t c) → answered_by s b a t c ≡ answered_by (omit_state h s) b a t c
@@ -346,15 +352,20 @@ module _ (h : Omitted) (p : PolicyState) where
     noted_same tells = ap (λ (e : Ending WorldState). e.outside.notes) (end_same (asks_of tells))
 
     end_wants : Asks → IfAny h.idle (Wants (call_ending (acting s b) b a s.maps begun).outside.call.insert)
-    end_wants (inl tells) = called_wants (acting s b) b (own s b is) a s.maps begun (tells_acting tells s b a begun is) (inr tt)
-    end_wants (inr (inl k)) = called_wants (acting s b) b (own s b is) a s.maps begun k (inr tt)
+    end_wants (inl tells) = called_wants (acting s b) b (own s b is) a out s.maps begun (tells_acting tells s b a begun is) (inr tt)
+    end_wants (inr (inl k)) = called_wants (acting s b) b (own s b is) a out s.maps begun k (inr tt)
     end_wants (inr (inr k)) =
         if_any h.idle (subst Wants (sym (ap (λ (e : Ending WorldState). e.outside.call.insert) (end_same (inr (inr k))))))
-        (called_wants (acting s b) b (own s b is) a s.maps (omit h begun) k (inr tt))
+        (called_wants (acting s b) b (own s b is) a out s.maps (omit h begun) k (inr tt))
 
-  calls_same : (q : Option VerifiedProgram) (b : Callback) (a : Args) (maps : Maps) (w : WorldState) → map (omit_call h) (calls_of q b a maps w) ≡ map (omit_call h) (calls_of q b a maps (omit h w))
-  calls_same None b a maps w = refl
-  calls_same (Some q) b a maps w = ap (λ (v : WorldState). record { callback = b; program = q; arguments = a; maps = maps; world = v } ∷ []) (plain h w)
+  -- the same is left out in its world
+  world_same : (b : Callback) (a : Args) → IsOutAt h b a → (w : WorldState) → omit (but_at_hand h b a) w ≡ omit h w
+  world_same b a out w = omit_as h (but_at_hand h b a).idle w (λ u. ap (λ (x : Bool). x && is_idle w u) (out_same h b a out u))
+
+  calls_same : (q : Option VerifiedProgram) (b : Callback) (a : Args) → IsOutAt h b a → (maps : Maps) (w : WorldState) → map (omit_call h) (calls_of q b a maps w) ≡ map (omit_call h) (calls_of q b a maps (omit h w))
+  calls_same None b a out maps w = refl
+  calls_same (Some q) b a out maps w =
+      ap (λ (v : WorldState). record { callback = b; program = q; arguments = a; maps = maps; world = v } ∷ []) (world_same b a out w ∙ plain h w ∙ sym (world_same b a out (omit h w)))
 
   answer_fault_same : (b : Callback) (w : WorldState) (n : ℕ) → answer_fault b w n ≡ answer_fault b (omit h w) n
   answer_fault_same callback.SelectCpu w n = refl
@@ -379,9 +390,9 @@ module _ (h : Omitted) (p : PolicyState) where
       (ap (λ (us : List CallMade). ended q us (omit_ending h e)) x ∙ ap (λ (u : Ending WorldState). ended q (map (omit_call h) ds) u) y, is)
 
   -- a callback is called, and what follows it
-  pub passes_call_back : (b : Callback) (a : Args) (t c : ℕ) → On (λ s. call_back s b a t c)
+  pub passes_call_back : (b : Callback) (a : Args) (t c : ℕ) → IsOutAt h b a → On (λ s. call_back s b a t c)
   unfolding call_back
-  passes_call_back b a t c s is tells = go (end_same b a t c s is (asks_of b a t c s is tells)) tells
+  passes_call_back b a t c out s is tells = go (end_same b a t c out s is (asks_of b a t c out s is tells)) tells
     where
       w : WorldState
       w = at_callback s.world b t c
@@ -402,14 +413,14 @@ module _ (h : Omitted) (p : PolicyState) where
       go same =
           subst (λ (o : Option Cause). Passes (one_after_other (ended s.policy cs e) (ejected_for (cause_of b e) (after_callback s.policy e))) (one_after_other (ended s.policy ds f) (ejected_for o (after_callback s.policy f))))
           (cause_same b e f same)
-          (chain (ended s.policy cs e) (ended s.policy ds f) (ejected_for (cause_of b e)) (ended_same s.policy cs ds e f is (calls_same (acting s b) b a s.maps w) same) (passes_ejected_for (cause_of b e)))
+          (chain (ended s.policy cs e) (ended s.policy ds f) (ejected_for (cause_of b e)) (ended_same s.policy cs ds e f is (calls_same (acting s b) b a out s.maps w) same) (passes_ejected_for (cause_of b e)))
 
   -- a callback that Linux rules call more
-  pub passes_call_by_linux : (b : Callback) (a : Args) (t c : ℕ) → On (λ s. call_by_linux s b a t c)
+  pub passes_call_by_linux : (b : Callback) (a : Args) (t c : ℕ) → IsOutAt h b a → On (λ s. call_by_linux s b a t c)
   unfolding call_by_linux
-  passes_call_by_linux b a t c s is =
+  passes_call_by_linux b a t c out s is =
       let is_called = is_by_linux s && is_some (program_of s.policy b) in
-      choose is_called is_called (call_back s b a t c) (call_back (omit_state h s) b a t c) (stays s) (stays (omit_state h s)) refl (passes_call_back b a t c s is) (rests s is)
+      choose is_called is_called (call_back s b a t c) (call_back (omit_state h s) b a t c) (stays s) (stays (omit_state h s)) refl (passes_call_back b a t c out s is) (rests s is)
 
   -- ---- a task that is put
 
@@ -440,19 +451,20 @@ module _ (h : Omitted) (p : PolicyState) where
   ejected_wants None s k = k
   ejected_wants (Some x) s k = eject_wants s (eject_of x s.world.clock)
 
-  pub call_back_wants : (b : Callback) (a : Args) (t c : ℕ) (s : State) → s.policy ≡ p → Tells (call_back s b a t c) (call_back (omit_state h s) b a t c) → IfAny h.idle (Wants (call_back s b a t c).state.world.call.insert)
+  pub call_back_wants : (b : Callback) (a : Args) (t c : ℕ) → IsOutAt h b a → (s : State) → s.policy ≡ p → Tells (call_back s b a t c) (call_back (omit_state h s) b a t c) → IfAny h.idle (Wants (call_back s b a t c).state.world.call.insert)
   unfolding call_back
-  call_back_wants b a t c s is tells =
+  call_back_wants b a t c out s is tells =
       let e = call_ending (acting s b) b a s.maps (at_callback s.world b t c) in
-      if_any h.idle (ejected_wants (cause_of b e) (after_callback s.policy e)) (end_wants b a t c s is (asks_of b a t c s is tells))
+      if_any h.idle (ejected_wants (cause_of b e) (after_callback s.policy e)) (end_wants b a t c out s is (asks_of b a t c out s is tells))
 
   -- a task is put
   pub passes_put : (t c flags : ℕ) → On (λ s. put s t c flags)
   unfolding put
   passes_put t c flags s is =
       let a = task_and_number t flags in
+      let out = early_out h callback.Enqueue a refl in
       chain_given (call_back s callback.Enqueue a t c) (call_back (omit_state h s) callback.Enqueue a t c) (λ r. comes_in r t c)
-      (passes_call_back callback.Enqueue a t c s is) (call_back_wants callback.Enqueue a t c s is) (passes_comes_in t c)
+      (passes_call_back callback.Enqueue a t c out s is) (call_back_wants callback.Enqueue a t c out s is) (passes_comes_in t c)
 
   -- ---- local queues are filled, and their fronts parked
 

@@ -25,6 +25,7 @@ use Rattle.scx_explore_findings.specs.Hidden.{since_unless, hidden_in, with_task
 use Rattle.scx_explore_findings.specs.IdleSlices.{is_put_nowhere, is_idle_of, sliceless_if}
 use Rattle.scx_explore_findings.proofs.Records.{alike_if, Keeps, keeps_since, keeps_slice, keeps_slice_by, keeps_home, keeps_on_cpu, keeps_numbers, keeps_new_slice, keeps_tick, keeps_insert}
 use Rattle.scx_explore_findings.proofs.IdleRecords.{bits, shown_if, Keeps as KeepsSliceless, keeps_if_so, keeps_new_slice as sliceless_new_slice, keeps_insert as sliceless_insert, given_anew}
+use Rattle.scx_explore_findings.proofs.Leaving.{pushed, homing}
 use Rattle.scx_explore_findings.proofs.Omitting.{Omitted, omit, less, twice, set_alike, read_at, length_same, first_same}
 use Rattle.scx_explore_findings.proofs.IdleTasks.{removed_still, popped_still, created_still, pushed_apart, pushed_held, off_still, another, still, out_busy, not_that, MayEnter, Given, Held, Out}
 
@@ -176,14 +177,8 @@ module _ (h : Omitted) where
 
   -- a task goes into a queue
   pub hides_enter : (t : ℕ) (i : Insert) → MayEnter h.idle t i → Hides (λ w. after_enter w t i)
-  hides_enter t i may = if_known t (λ w. after_preempt (homed_at (pushed w) t (local_cpu w i.queue)) i) (both homing (λ w. after_preempt w i) (both pushed (λ w. homed_at w t (local_cpu w i.queue)) pushes (λ w. hides_homed_at t (local_cpu w i.queue) w)) (hides_preempt i))
+  hides_enter t i may = if_known t (λ w. after_preempt (homing t i w) i) (both (homing t i) (λ w. after_preempt w i) (both (pushed t i) (λ w. homed_at w t (local_cpu w i.queue)) pushes (λ w. hides_homed_at t (local_cpu w i.queue) w)) (hides_preempt i))
     where
-      pushed : WorldState → WorldState
-      pushed w = with_queues (with_task w t (task_after_insert (task_at w t) i)) (after_push w.queues i.queue t (rank_by w i.rank))
-
-      homing : WorldState → WorldState
-      homing w = homed_at (pushed w) t (local_cpu w i.queue)
-
       inserted : Task → Task
       inserted x = task_after_insert x i
 
@@ -207,7 +202,7 @@ module _ (h : Omitted) where
           go false is = refl
           go true is = subst (λ (b : Bool). sliceless_if b (inserted x) ≡ sliceless_if b (inserted (with_slice x 0))) (sym (held is)) (sliceless_insert i x)
 
-      pushes : Hides pushed
+      pushes : Hides (pushed t i)
       pushes w =
           set_moved (is_idle_of h.idle w) inserted (keeps_insert h.parts i) (in_queue w) t (others w) (itself w may)
           ∙ ap (λ (r : Rank). omit h (with_queues (with_task (omit h w) t (inserted (task_at (omit h w) t))) (after_push w.queues i.queue t r))) (rank_same i.rank w)

@@ -1,4 +1,4 @@
--- What programs ask in their runs: whatever they are given and answered, and as the world answers
+-- Queries of programs in their runs: whatever they are given and answered, and as the world answers
 -- the callbacks that are called.
 use Rattle.std.specs.Prelude.{◌≡◌, ℕ, zero, suc, List, [], ◌∷◌, Option, Some, None}
 use Rattle.scx_isa_semantics.specs.declared.callbacks.Callback.{Callback}
@@ -95,11 +95,11 @@ CallsAsk P (c ∷ cs) = CallAsks P c × CallsAsk P cs
 abbrev pub IsCallOf : PolicyState → CallMade → Type 0
 IsCallOf p c = program_of p c.callback ≡ Some c.program
 
--- each of these calls of a program of the policy asks such queries alone
+-- each of these calls of a program of the policy asks alone what such a call may
 abbrev pub OwnCallsAsk :
-    (WorldState → Query → Type 0) → PolicyState → List CallMade → Type 0
+    (CallMade → WorldState → Query → Type 0) → PolicyState → List CallMade → Type 0
 OwnCallsAsk P p [] = Unit {0}
-OwnCallsAsk P p (c ∷ cs) = (IsCallOf p c → CallAsks P c) × OwnCallsAsk P p cs
+OwnCallsAsk P p (c ∷ cs) = (IsCallOf p c → CallAsks (P c) c) × OwnCallsAsk P p cs
 
 -- A callback that is called runs as it was verified: its program, its arguments and its maps fit.
 pub record IsFitting (c : CallMade) : Type 0 where

@@ -1,29 +1,28 @@
 -- Machines in which tasks that sleep or are held have no slice: an insert gives them one before
 -- anything reads it, if no program loads the slice of one and each insert gives one.
-use Rattle.std.specs.Prelude.{◌≡◌, ℕ, suc, ◌==◌, ◌&&◌, ◌||◌, not, Bool, true, false, List, [], ◌∷◌, if◌then◌else◌, Option, Some, None}
+use Rattle.std.specs.Prelude.{◌≡◌, ◌⊎◌, ℕ, suc, ◌==◌, ◌&&◌, ◌||◌, not, Bool, true, false, List, [], ◌∷◌, if◌then◌else◌, Option, Some, None}
 use Rattle.scx_dsq.specs.declared.entries.Entry.{Entry}
 use Rattle.scx_dsq.specs.Queues.{entry_of}
 use Rattle.scx_isa_semantics.specs.declared.callbacks.Callback.{Callback}
 use Rattle.scx_isa_semantics.specs.declared.host_tables.Field.{Field}
 use Rattle.scx_isa_semantics.specs.declared.host_tables.Field.TheVariants.{Slice}
-use Rattle.scx_isa_semantics.specs.declared.instructions.Insn.{Insn}
-use Rattle.scx_isa_semantics.specs.declared.instructions.Insn.TheVariants as insn
-use Rattle.scx_isa_semantics.specs.Arithmetic.{at_distance}
-use Rattle.scx_isa_semantics.specs.Code.{Code, at}
-use Rattle.scx_isa_semantics.specs.Effects.{Query, Load}
-use Rattle.scx_isa_semantics.specs.HostTables.{field_at}
-use Rattle.scx_isa_semantics.specs.Memory.{access_size, size_bytes}
+use Rattle.scx_isa_semantics.specs.Code.{Code}
+use Rattle.scx_isa_semantics.specs.Effects.{Query, Call, Load}
+use Rattle.scx_isa_semantics.specs.HostTables.{answers_task}
+use Rattle.scx_vm.specs.declared.context.Context.{Context}
+use Rattle.scx_vm.specs.Programs.{VerifiedProgram}
 use Rattle.scx_sched_tasks.specs.declared.task.Task.{Task}
 use Rattle.scx_sched_world.specs.Ids.{held_queue}
 use Rattle.scx_sched_world.specs.Tasks.{with_slice}
 use Rattle.scx_sched_world.specs.World.{WorldState, is_this}
 use Rattle.scx_sched_machine.specs.declared.events.Event.{Event}
-use Rattle.scx_sched_policy.specs.Policy.{PolicyState}
+use Rattle.scx_sched_policy.specs.Policy.{PolicyState, program_of}
 use Rattle.scx_sched_machine.specs.Steps.{State}
 use Rattle.scx_sched.specs.Sim.{SimState, refusal, after_event, calls_of}
-use Rattle.scx_explore_states.specs.Asking.{LoadsNo, GivesOne}
-use Rattle.scx_explore_findings.specs.Asked.{AsksAnyhow, AskAnyhow, CallsAsk}
+use Rattle.scx_explore_states.specs.Asking.{LoadsNo, GivesOne, AsksOnly, is_early}
+use Rattle.scx_explore_findings.specs.Asked.{AsksAnyhow, AskAnyhow, AskOnly, CallsAsk}
 use Rattle.scx_explore_findings.specs.Hidden.{with_tasks}
+use Rattle.scx_explore_findings.specs.Unread.{LoadsNone}
 
 -- ---- worlds
 
@@ -82,6 +81,29 @@ TellsNoSlice q = LoadsNo Slice q × GivesOne q
 abbrev pub TellNoSlices : PolicyState → Type 0
 TellNoSlices p = AskAnyhow TellsNoSlice p
 
+-- a query asks for no task
+abbrev pub AsksForNone : Query → Type 0
+AsksForNone (Call f a) = answers_task f ≡ false
+AsksForNone q = Unit {0}
+
+-- no run of the program loads a slice, or its callback is given a task that runs, and no run asks
+-- for another one
+abbrev pub LoadsItsOwn : Context → Code → Type 0
+LoadsItsOwn c code =
+    AsksOnly (LoadsNo Slice) c code
+    ⊎ ((is_early c.callback true ≡ false) × AsksOnly AsksForNone c code)
+
+-- so it is with a program that was verified for that callback, if there is one
+abbrev pub IfLoadsItsOwn : Callback → Option VerifiedProgram → Type 0
+IfLoadsItsOwn b None = Unit {0}
+IfLoadsItsOwn b (Some p) = p.context.callback ≡ b → LoadsItsOwn p.context p.code
+
+-- no run of a program of the policy loads the slice of a task that sleeps or is held, and each
+-- insert of one gives a slice
+pub record TellNoIdleSlices (p : PolicyState) : Type 0 where
+  pub given : AskOnly GivesOne p
+  pub loads : (b : Callback) → IfLoadsItsOwn b (program_of p b)
+
 -- a query loads the slice of no task that sleeps or is held
 abbrev pub LoadsBusy : WorldState → Query → Type 0
 LoadsBusy w (Load t Slice) = is_idle w t.0 ≡ false
@@ -91,22 +113,17 @@ LoadsBusy w q = Unit {0}
 abbrev pub TellsNoIdleSlice : WorldState → Query → Type 0
 TellsNoIdleSlice w q = LoadsBusy w q × GivesOne q
 
--- it is the slice of a task; false where there is no field
-abbrev pub is_slice : Option Field → Bool
-is_slice (Some Slice) = true
-is_slice o = false
+-- the field is the slice of a task
+abbrev pub is_slice : Field → Bool
+is_slice Slice = true
+is_slice f = false
 
--- it is a load of the bytes at which a task's slice lies: of 8 bytes at offset 8
-abbrev pub loads_slice : Option Insn → Bool
-loads_slice (Some (insn.Load a d b offset)) =
-    is_slice (field_at (size_bytes (access_size a)) (at_distance 0 offset))
-loads_slice o = false
-
--- a program with no such instruction, of which each insert gives a slice, tells none
+-- a program with no load of the bytes at which a task's slice lies, of 8 bytes at offset 8, and of
+-- which each insert gives a slice, tells none
 abbrev pub SuchProgramsTellNoSlices : Type 0
 SuchProgramsTellNoSlices =
     (c : Callback) (code : Code)
-    → ((slot : ℕ) → loads_slice (at code slot) ≡ false)
+    → LoadsNone is_slice code
     → AsksAnyhow GivesOne c code
     → AsksAnyhow TellsNoSlice c code
 

@@ -11,6 +11,7 @@ pub mod Tallies
 pub mod Asked
 pub mod Hidden
 pub mod Unread
+pub mod Counted
 pub mod HiddenStates
 pub mod HiddenMachines
 pub mod HiddenLaws

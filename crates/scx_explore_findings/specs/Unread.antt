@@ -29,22 +29,33 @@ ReadsNone h q = Unit {0}
 
 -- ---- instructions
 
--- whether the field is hidden where there is one; false where there is none
-abbrev pub is_hidden_field : Hidden → Option Field → Bool
-is_hidden_field h None = false
-is_hidden_field h (Some f) = is_hidden h f
+-- the field is one of those, if there is one
+abbrev pub is_some_field : (Field → Bool) → Option Field → Bool
+is_some_field are None = false
+is_some_field are (Some f) = are f
 
--- whether it is a load of the bytes at an offset that a hidden field has in the record of a task:
--- of 8 bytes at 32 for how long a task has run, of 8 bytes at 16 for its virtual time
-abbrev pub may_read : Hidden → Option Insn → Bool
-may_read h None = false
-may_read h (Some (insn.Load a d b offset)) =
-    is_hidden_field h (field_at (size_bytes (access_size a)) (at_distance 0 offset))
-may_read h (Some i) = false
+-- it is a load of the bytes at an offset that one of those fields has in the record of a task
+abbrev pub loads_some : (Field → Bool) → Option Insn → Bool
+loads_some are (Some (insn.Load a d b offset)) =
+    is_some_field are (field_at (size_bytes (access_size a)) (at_distance 0 offset))
+loads_some are o = false
 
 -- no instruction of the program is such a load
+abbrev pub LoadsNone : (Field → Bool) → Code → Type 0
+LoadsNone are code = (slot : ℕ) → loads_some are (at code slot) ≡ false
+
+-- whether the field is hidden where there is one; false where there is none
+abbrev pub is_hidden_field : Hidden → Option Field → Bool
+is_hidden_field h o = is_some_field (is_hidden h) o
+
+-- whether it is a load of a hidden field: of 8 bytes at 32 for how long a task has run, of 8 bytes
+-- at 16 for its virtual time
+abbrev pub may_read : Hidden → Option Insn → Bool
+may_read h o = loads_some (is_hidden h) o
+
+-- no instruction of the program loads a hidden field
 abbrev pub IsUnreadBy : Hidden → Code → Type 0
-IsUnreadBy h code = (slot : ℕ) → may_read h (at code slot) ≡ false
+IsUnreadBy h code = LoadsNone (is_hidden h) code
 
 -- the same of a program, if there is one
 abbrev pub IsUnread : Hidden → Option VerifiedProgram → Type 0

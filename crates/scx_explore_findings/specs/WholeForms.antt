@@ -33,7 +33,7 @@ use Rattle.scx_explore_findings.specs.Delayed.{AreClockless}
 use Rattle.scx_explore_findings.specs.FifoOnly.{InsertInOrder, IsInOrder}
 use Rattle.scx_explore_findings.specs.Hidden.{Hidden}
 use Rattle.scx_explore_findings.specs.HiddenLaws.{LeavesOut}
-use Rattle.scx_explore_findings.specs.IdleSlices.{TellsNoSlice}
+use Rattle.scx_explore_findings.specs.IdleSlices.{TellNoSlices, TellNoIdleSlices}
 use Rattle.scx_explore_findings.specs.Unread.{ReadsNone}
 
 -- ---- programs
@@ -65,33 +65,34 @@ pub record TellsNoTime (p : PolicyState) : Type 0 where
 -- ---- forms
 
 -- the form keeps everything that a program of the policy can read: it leaves out the number of
--- pushes, and at most the clock where no program tells the time, slices of tasks that sleep or are
--- held where none tells them, keys where none inserts a task by one, the random number where none
--- draws one, and run times and virtual times that none loads. That none tells or loads these is
--- said of programs in that way.
+-- pushes, and at most waits, which none can read, the clock where no program tells the time, slices
+-- of tasks that sleep or are held where none tells them, keys where none inserts a task by one, the
+-- random number where none draws one, and run times and virtual times that none loads. That none
+-- tells or loads these is said of programs in these two ways. Of slices themselves nothing is said.
 pub record IsWholeBy
-    (Ask : (Query → Type 0) → PolicyState → Type 0) (p : PolicyState) (f : Form) : Type 0 where
-  pub clock : (f.clock ≡ true) ⊎ TellsNoTime p
-  pub pushes : f.pushes ≡ false
-  pub waits : f.waits ≡ true
-  pub idle_slices : (f.idle_slices ≡ true) ⊎ Ask TellsNoSlice p
-  pub keys : (f.keys ≡ true) ⊎ InsertInOrder p
-  pub hidden : Hidden
-  pub waits_stay : hidden.waits ≡ false
-  pub unread : Ask (ReadsNone hidden) p
-  pub left_out : LeavesOut f hidden
-  pub vtime : hidden.vtime ≡ false → f.vtime ≡ true
-  pub run_ns : hidden.run_ns ≡ false → f.run_ns ≡ true
-  pub random : (f.random ≡ true) ⊎ DrawNone p
-  pub names : f.names ≡ true
+    (Ask : (Query → Type 0) → PolicyState → Type 0) (Tell : PolicyState → Type 0) (p : PolicyState)
+    (f : Form) : Type 0
+  where
+    pub clock : (f.clock ≡ true) ⊎ TellsNoTime p
+    pub pushes : f.pushes ≡ false
+    pub idle_slices : (f.idle_slices ≡ true) ⊎ Tell p
+    pub keys : (f.keys ≡ true) ⊎ InsertInOrder p
+    pub hidden : Hidden
+    pub unread : Ask (ReadsNone hidden) p
+    pub left_out : LeavesOut f hidden
+    pub waits : hidden.waits ≡ false → f.waits ≡ true
+    pub vtime : hidden.vtime ≡ false → f.vtime ≡ true
+    pub run_ns : hidden.run_ns ≡ false → f.run_ns ≡ true
+    pub random : (f.random ≡ true) ⊎ DrawNone p
+    pub names : f.names ≡ true
 
 -- whatever programs are given and answered
 abbrev pub IsWhole : PolicyState → Form → Type 0
-IsWhole p f = IsWholeBy AskAnyhow p f
+IsWhole p f = IsWholeBy AskAnyhow TellNoSlices p f
 
 -- in each run of a program that was verified, as long as what it is given and answered fits
 abbrev pub IsWholeInRuns : PolicyState → Form → Type 0
-IsWholeInRuns p f = IsWholeBy AskOnly p f
+IsWholeInRuns p f = IsWholeBy AskOnly TellNoIdleSlices p f
 
 -- a form that is whole is so in each run
 abbrev pub WholeFormsAreSoInRuns : Type 0
