@@ -14,7 +14,7 @@ use Rattle.scx_explore_findings.specs.Delayed.{is_clock, reads_clock, IsClockles
 use Rattle.scx_explore_findings.specs.FifoOnly.{is_by_vtime, inserts_by_vtime, InsertsInOrder}
 use Rattle.scx_explore_findings.specs.WholeForms.{is_random, draws, DrawsNone, IsWholeBy}
 use Rattle.scx_explore_findings.specs.Asked.{AskAnyhow}
-use Rattle.scx_explore_findings.specs.IdleSlices.{TellsNoSlice}
+use Rattle.scx_explore_findings.specs.IdleSlices.{TellNoSlices}
 use Rattle.scx_explore_findings.specs.Unread.{ReadsNone}
 use Rattle.scx_explore_states.specs.declared.map_words.MapWords.{MapWords}
 use Rattle.scx_explore_states.specs.declared.map_words.MapWords.TheVariants.{Whole}
@@ -81,18 +81,17 @@ left_out false e = refl
 left_out true e = absurd (apart e)
 
 -- what is asked being said in that way, and with any words of maps
-pub computed_by : (Ask : (Query → Type 0) → PolicyState → Type 0) (p : PolicyState) (u : Uses) (words : MapWords) → DoNoMore u p → p.tick_ms ≡ 0 → Ask (ReadsNone (left_out_by (form_of u true))) p → (tells_idle_slices u ≡ false → Ask TellsNoSlice p)
-    → IsWholeBy Ask p (record (form_of u true) { map_words = words })
-computed_by Ask p u words none exact unread slices = record {
+pub computed_by : (Ask : (Query → Type 0) → PolicyState → Type 0) (Tell : PolicyState → Type 0) (p : PolicyState) (u : Uses) (waits : Bool) (words : MapWords) → DoNoMore u p → p.tick_ms ≡ 0 → Ask (ReadsNone (left_out_by (form_of u waits))) p → (tells_idle_slices u ≡ false → Tell p)
+    → IsWholeBy Ask Tell p (record (form_of u waits) { map_words = words })
+computed_by Ask Tell p u waits words none exact unread slices = record {
   clock = kept_or u.clock (λ e. record { clockless = λ b. clockless u e (program_of p b) (none b); exact = exact });
   pushes = refl;
-  waits = refl;
   idle_slices = kept_or (tells_idle_slices u) slices;
   keys = kept_or u.vtime_inserts (λ e b. in_order u e (program_of p b) (none b));
-  hidden = left_out_by (form_of u true);
-  waits_stay = refl;
+  hidden = left_out_by (form_of u waits);
   unread = unread;
-  left_out = record { run_ns = left_out u.run_ns; vtime = left_out u.vtime; waits = λ e. absurd (apart e) };
+  left_out = record { run_ns = left_out u.run_ns; vtime = left_out u.vtime; waits = left_out waits };
+  waits = shown waits;
   vtime = shown u.vtime;
   run_ns = shown u.run_ns;
   random = kept_or u.random (λ e b. undrawn u e (program_of p b) (none b));
@@ -100,4 +99,4 @@ computed_by Ask p u words none exact unread slices = record {
 }
 
 pub computed_forms_are_whole : ComputedFormsAreWhole
-computed_forms_are_whole p u none exact unread slices = computed_by AskAnyhow p u Whole none exact unread slices
+computed_forms_are_whole p u waits none exact unread slices = computed_by AskAnyhow TellNoSlices p u waits Whole none exact unread slices

@@ -1,5 +1,5 @@
--- That a table that is closed has covered every list.
-use Rattle.std.proofs.Common.{◌≡◌, ℕ, suc, ◌+◌, ◌≤◌, List, [], ◌∷◌, ◌++◌, length, map, All, Option, None, Some, refl, sym, ap, ◌∙◌, subst, arith}
+-- That a table that is closed has covered every list, where a move of a list may go without one that is tried.
+use Rattle.std.proofs.Common.{◌≡◌, Bool, true, false, ℕ, suc, ◌+◌, ◌≤◌, List, [], ◌∷◌, ◌++◌, length, map, All, Option, None, Some, refl, sym, ap, ◌∙◌, subst, arith, ◌<◌, ◌⊎◌, inl, inr}
 use Rattle.std.specs.Prelude.{IfSome}
 use Rattle.std.proofs.lemmas.List.Elements.{All-nil, All-push, All-head, All-tail, All-map, All-weaker}
 use Rattle.std.proofs.lemmas.List.{append-nil, append_assoc, length-map}
@@ -8,11 +8,13 @@ use Rattle.scx_sched.specs.Sim.{SimState, after_event}
 use Rattle.scx_load_driver.specs.Runs.{stepped_all, AreAccepted}
 use Rattle.scx_explore_findings.specs.declared.finding.Sort.{Sort}
 use Rattle.scx_explore_machines.specs.Seen.{state_at}
+use Rattle.scx_explore_states.specs.declared.form.Form.{Form}
 use Rattle.scx_explore_states.specs.Written.{IsWritten}
 use Rattle.scx_explore_audit.specs.declared.table.Moves.{Moves}
 use Rattle.scx_explore_audit.specs.declared.table.Moves.TheVariants.{Events}
 use Rattle.scx_explore_audit.specs.Claims.{IsTried, IsMove, ShowsNone, ShowsNoneAtFirst, list_of}
-use Rattle.scx_explore_audit.specs.Closed.{Claim, IsReached, IsMatched, IsSurvived, IsWithin, CallsRunAlong, RespectsRuns, IsMet, LeadsBack, IsDone, IsClosed, depth_at}
+use Rattle.scx_explore_audit.specs.Closed.{Claim, IsReached, IsSurvived, IsWithin, CallsRunAlong, IsMatched, RespectsRuns, IsAudited, IsFollowed, FollowsRuns, IsMet, LeadsBack, IsDone, IsClosed, depth_at}
+use Rattle.scx_explore_audit.specs.Tried.{IsTriedIn}
 use Rattle.scx_explore_audit.specs.Laws.{ClosedTablesCover, ListsAreOfEvents}
 use Rattle.scx_explore_audit.proofs.Skipping.{NoneAtFirst, none_past}
 
@@ -138,6 +140,25 @@ no_more : (limit : Option ℕ) (k d n : ℕ) → IfSome limit (λ most. k ≤ d)
 no_more None k d n less few = tt
 no_more (Some most) k d n less few = omega (arith, less, few)
 
+-- ---- what is followed
+
+-- where slices are kept the moves of lists are tried
+tried_as : (b : Bool) (moves : Moves) (root s : SimState) (es : List Event) → b ≡ true → IsMove moves root es → IsTriedIn b moves root s es
+tried_as true moves root s es kept is = is
+tried_as false moves root s es kept is = let bad : false ≡ true = kept in absurd (cc)
+
+-- so what is respected is followed
+pub respected_followed : (f : Form) (ids : List ℕ) (moves : Moves) (sorts : List Sort) (root : SimState) (room : ℕ) → f.slices ≡ true → RespectsRuns f ids moves sorts root room → FollowsRuns f ids moves sorts root room
+respected_followed f ids moves sorts root room kept respects xs s t es reached near seen here there move =
+    let m : IsMatched f ids moves sorts root s t es = respects xs s t es reached near (λ fs is. seen.run fs (tried_as f.slices moves root t fs kept is)) here there move in
+    record {
+      other = m.other;
+      move = inr (tried_as f.slices moves root t m.other kept m.move);
+      free = m.free;
+      there = m.there;
+      written = m.written;
+    }
+
 -- ---- the law
 
 -- what stands for one state stands for the other, where no fewer moves came before
@@ -151,38 +172,72 @@ met_as c d n s t few written there within =
       written = written (state_at c.kept m.number) m.written;
     }
 
-covers : (c : Claim) (root : SimState) (room : ℕ) → RespectsRuns c.form c.ids c.moves c.sorts root room → IsClosed c root room → (list : List (List Event)) (n : ℕ) (s : SimState) → IsReached c.moves root s → (IsWithin c.limit n → IsMet c n s) → All (IsMove c.moves root) list → IfSome c.limit (λ most. n + length list ≤ most) → ShowsNoneAtFirst c.sorts s (list_of list)
-covers c root room respects closed [] n s reached met moves few = tt
-covers c root room respects closed (es ∷ list) n s reached met moves few =
-    let within : IsWithin c.limit n = within_more c.limit n (length list) few in
-    let m : IsMet c n s = met within in
-    let k : ℕ = m.number in
-    let d : ℕ = depth_at c k in
-    let done : IsDone c root room k = closed.each k m.there (within_fewer c.limit d n m.depth within) in
-    let move : IsMove c.moves root es = All-head (IsMove c.moves root) es list moves in
-    let other : IsMatched c.form c.ids c.moves c.sorts root s done.state es =
-    respects (state_at c.kept k) s done.state es reached done.near (λ fs is. leads_run c (d + 1) done.state fs (done.moves fs is)) m.written done.written move in
-    let leads : LeadsBack c (d + 1) done.state other.other = done.moves other.other other.move in
-    shows_append c.sorts s es (list_of list) (other.free (leads_shows c (d + 1) done.state other.other leads))
-    (λ survived.
-    covers c root room respects closed list (n + 1) (stepped_all s es)
-    (further c.moves root s es reached move survived)
-    (met_as c (d + 1) (n + 1) (stepped_all s es) (stepped_all done.state other.other) (one_more c.limit d n m.depth)
-    (λ xs. other.written xs survived)
-    (leads_met c (d + 1) done.state other.other leads (other.there survived)))
-    (All-tail (IsMove c.moves root) es list moves)
-    (one_came c.limit n (length list) few))
+-- where no fewer moves came before
+no_less : (limit : Option ℕ) (d n : ℕ) → IfSome limit (λ most. d ≤ n) → IfSome limit (λ most. d ≤ n + 1)
+no_less None d n few = tt
+no_less (Some most) d n few = omega (arith, few)
 
--- from the first state on, as far as events are accepted
-covered : (c : Claim) (root : SimState) (room : ℕ) → RespectsRuns c.form c.ids c.moves c.sorts root room → IsClosed c root room → NoneAtFirst c.moves c.limit c.sorts root
-covered c root room respects closed list moves few =
-    covers c root room respects closed list 0 root (reached_first c.moves root closed.force) closed.first moves
-    (none_came c.limit (length list) few)
+module _ (c : Claim) (root : SimState) (room : ℕ) where
+  -- what the audit has seen of a state, from which moves that are tried lead back
+  module _ (k n : ℕ) (there : k < c.kept.count) (few : IfSome c.limit (λ most. depth_at c k ≤ n)) (done : IsDone c root room k) where
+    abbrev Tried : List Event → Type 0
+    Tried fs = IsTriedIn c.form.slices c.moves root done.state fs
+
+    seen : IsAudited c.form c.moves c.sorts root room done.state done.near
+    seen = record {
+      shown = λ fs is. leads_shows c (depth_at c k + 1) done.state fs (done.moves fs is);
+      run = λ fs is. leads_run c (depth_at c k + 1) done.state fs (done.moves fs is);
+      fits = done.fits;
+      early = done.early;
+    }
+
+    -- such a move shows nothing, and nor does none
+    none_shown : (fs : List Event) → (fs ≡ []) ⊎ Tried fs → ShowsNoneAtFirst c.sorts done.state fs
+    none_shown fs (inl none) = subst (λ (es : List Event). ShowsNoneAtFirst c.sorts done.state es) (sym none) tt
+    none_shown fs (inr is) = seen.shown fs is
+
+    -- and the state after it is met
+    then_met : (fs : List Event) → (fs ≡ []) ⊎ Tried fs → IsSurvived done.state fs → IsWithin c.limit (n + 1) → IsMet c (n + 1) (stepped_all done.state fs)
+    then_met fs (inl none) survived within = record {
+      number = k;
+      there = there;
+      depth = no_less c.limit (depth_at c k) n few;
+      written = subst (λ (es : List Event). IsWritten c.form c.ids (state_at c.kept k) (stepped_all done.state es)) (sym none) done.written;
+    }
+    then_met fs (inr is) survived within =
+        let d = depth_at c k in
+        met_as c (d + 1) (n + 1) (stepped_all done.state fs) (stepped_all done.state fs) (one_more c.limit d n few) (λ xs written. written) (leads_met c (d + 1) done.state fs (done.moves fs is) survived) within
+
+  -- as what follows it is, so is the state that it follows
+  met_too : (n : ℕ) (s t : SimState) → ((xs : List ℕ) → IsWritten c.form c.ids xs t → IsWritten c.form c.ids xs s) → IsMet c n t → IsMet c n s
+  met_too n s t written m = record { number = m.number; there = m.there; depth = m.depth; written = written (state_at c.kept m.number) m.written }
+
+  module _ (follows : FollowsRuns c.form c.ids c.moves c.sorts root room) (closed : IsClosed c root room) where
+    covers : (list : List (List Event)) (n : ℕ) (s : SimState) → IsReached c.moves root s → (IsWithin c.limit n → IsMet c n s) → All (IsMove c.moves root) list → IfSome c.limit (λ most. n + length list ≤ most) → ShowsNoneAtFirst c.sorts s (list_of list)
+    covers [] n s reached met moves few = tt
+    covers (es ∷ list) n s reached met moves few =
+        let within : IsWithin c.limit n = within_more c.limit n (length list) few in
+        let m : IsMet c n s = met within in
+        let k : ℕ = m.number in
+        let done : IsDone c root room k = closed.each k m.there (within_fewer c.limit (depth_at c k) n m.depth within) in
+        let move : IsMove c.moves root es = All-head (IsMove c.moves root) es list moves in
+        let x : IsFollowed c.form c.ids c.moves c.sorts root s done.state es =
+        follows (state_at c.kept k) s done.state es reached done.near (seen k n m.there m.depth done) m.written done.written move in
+        shows_append c.sorts s es (list_of list) (x.free (none_shown k n m.there m.depth done x.other x.move))
+        (λ survived.
+        covers list (n + 1) (stepped_all s es)
+        (further c.moves root s es reached move survived)
+        (λ more. met_too (n + 1) (stepped_all s es) (stepped_all done.state x.other) (λ xs. x.written xs survived) (then_met k n m.there m.depth done x.other x.move (x.there survived) more))
+        (All-tail (IsMove c.moves root) es list moves)
+        (one_came c.limit n (length list) few))
+
+    -- from the first state on, as far as events are accepted
+    covered : NoneAtFirst c.moves c.limit c.sorts root
+    covered list moves few = covers list 0 root (reached_first c.moves root closed.force) closed.first moves (none_came c.limit (length list) few)
 
 -- and past those that are refused
 pub closed_tables_cover : ClosedTablesCover
-closed_tables_cover c root room respects closed =
-    none_past c.moves c.limit c.sorts root (covered c root room respects closed)
+closed_tables_cover c root room follows closed = none_past c.moves c.limit c.sorts root (covered c root room follows closed)
 
 -- ---- lists of events
 

@@ -1,27 +1,33 @@
 -- A form that is computed keeps what a policy's programs ask in their runs.
-use Rattle.std.proofs.Common.{◌≡◌, ℕ, zero, suc, ◌<◌, ◌||◌, ◌&&◌, Bool, true, false, not, List, [], ◌∷◌, length, get_or, Option, Some, None, refl, sym, subst, arith}
+use Rattle.std.proofs.Common.{◌≡◌, ℕ, zero, suc, ◌<◌, ◌||◌, ◌&&◌, Bool, true, false, not, List, [], ◌∷◌, length, get_or, Option, Some, None, refl, sym, ap, ◌∙◌, subst, arith, inl, inr}
 use Rattle.std.specs.List.{AllByRecursion}
 use Rattle.scx_isa_semantics.specs.declared.callbacks.Callback.{Callback}
 use Rattle.scx_isa_semantics.specs.declared.callbacks.Callback.TheVariants as callback
 use Rattle.scx_isa_semantics.specs.declared.host_tables.Field.TheVariants.{DsqVtime, RunNs}
+use Rattle.scx_isa_semantics.specs.declared.rules.Rules.{Rules}
 use Rattle.scx_isa_semantics.specs.Callbacks.{at, callbacks}
 use Rattle.scx_isa_semantics.specs.Code.{Code}
 use Rattle.scx_isa_semantics.specs.Effects.{Query, Call, Load, Store}
+use Rattle.scx_isa.specs.Spelling.{IsProgram}
+use Rattle.scx_maps.specs.declared.shape.Shape.{Shape}
 use Rattle.scx_vm.specs.declared.context.Context.{Context}
 use Rattle.scx_vm.specs.Programs.{VerifiedProgram}
+use Rattle.scx_verify.specs.Typing.{IsTyped}
 use Rattle.scx_sched_policy.specs.Policy.{PolicyState, program_of}
+use Rattle.scx_sched_world.specs.World.{are_linux}
 use Rattle.scx_load_policies.specs.Building.{IsBuilt, IsIn, IsAccepted, code_of, context_of}
-use Rattle.scx_load_policies.specs.Policies.{PolicyFile}
-use Rattle.scx_explore_states.specs.Asking.{LoadsNo}
+use Rattle.scx_load_policies.specs.Policies.{PolicyFile, Programs}
+use Rattle.scx_explore_states.specs.Asking.{LoadsNo, GivesOne, is_early}
 use Rattle.scx_explore_findings.specs.Asked.{IfAsksOnly, AskOnly}
-use Rattle.scx_explore_findings.specs.IdleSlices.{TellsNoSlice}
+use Rattle.scx_explore_findings.specs.IdleSlices.{LoadsItsOwn, IfLoadsItsOwn, TellNoIdleSlices}
 use Rattle.scx_explore_findings.specs.Unread.{ReadsNone}
 use Rattle.scx_explore_bounds.specs.declared.uses.Uses.{Uses}
-use Rattle.scx_explore_bounds.specs.Forms.{tells_idle_slices, form_of, no_uses, DoAll}
+use Rattle.scx_explore_bounds.specs.Forms.{tells_idle_slices, form_of, no_uses, DoesAs, DoAll}
 use Rattle.scx_explore_bounds.specs.Told.{DoesNoMore, IfDoesNoMore}
 use Rattle.scx_explore_bounds.proofs.Done.{uses_tell_runs}
 use Rattle.scx_explore_audit.specs.Computed.{IfNoMore, DoNoMore, left_out_by, ComputedFormsAreWholeInRuns}
 use Rattle.scx_explore_audit.proofs.Computed.{apart, computed_by}
+use Rattle.scx_explore_audit.proofs.PlainCalls.{plain_runs_ask_for_none}
 
 -- ---- each program of a policy
 
@@ -62,44 +68,118 @@ do_no_more file p u built done b =
     go (Some q) (Some code) e i a d =
         subst (λ (k : Context). DoesNoMore u k q.code) (sym i) (subst (λ (y : Code). DoesNoMore u (context_of file b) y) (sym (code_is q.code code e)) (d a))
 
+-- the program passes in a context by these rules, if there is one
+record Passes (r : Rules) (q : VerifiedProgram) : Type 0 where
+  program : IsProgram q.code
+  typed : IsTyped q.context q.code
+  rules : q.context.rules ≡ r
+
+abbrev IfPasses : Rules → Option VerifiedProgram → Type 0
+IfPasses r None = Unit {0}
+IfPasses r (Some q) = Passes r q
+
+abbrev IfProgram : Option Code → Type 0
+IfProgram None = Unit {0}
+IfProgram (Some code) = IsProgram code
+
+all_programs : (r : Rules) (shapes : List Shape) (p : Programs) (bs : List Callback) (u v : Uses) → DoAll r shapes p bs u v → AllByRecursion (λ b. IfProgram (at p b)) bs
+all_programs r shapes p [] u v done = tt
+all_programs r shapes p (b ∷ bs) u v done = (one (at p b) done.1, all_programs r shapes p bs done.0 v done.2)
+  where
+    one : (o : Option Code) → DoesAs r shapes b o u done.0 → IfProgram o
+    one None does = tt
+    one (Some code) does = does.program
+
+-- so does each program of a policy that is built of a file
+all_pass : (file : PolicyFile) (p : PolicyState) (u : Uses) → IsBuilt file p → DoAll file.rules file.shapes file.programs callbacks no_uses u → (b : Callback) → IfPasses file.rules (program_of p b)
+all_pass file p u built done b =
+    go (program_of p b) (at file.programs b) (built.programs b) (built.contexts b) (built.accepted b)
+    (at_each (λ x. IfProgram (at file.programs x)) tt (all_programs file.rules file.shapes file.programs callbacks no_uses u done) b)
+  where
+    go : (o : Option VerifiedProgram) (x : Option Code) → code_of o ≡ x → IsIn (context_of file b) o → IsAccepted (context_of file b) x → IfProgram x → IfPasses file.rules o
+    go None x e i a d = tt
+    go (Some q) None e i a d = absurd (cc)
+    go (Some q) (Some code) e i a d =
+        let same = code_is q.code code e in
+        record {
+          program = subst IsProgram (sym same) d;
+          typed = subst (λ (k : Context). IsTyped k q.code) (sym i) (subst (λ (y : Code). IsTyped (context_of file b) y) (sym same) a);
+          rules = ap (λ (k : Context). k.rules) i;
+        }
+
 -- ---- queries
 
 none_of_both : (a : Bool) → (a ≡ false → true ≡ false) → not a ≡ false
 none_of_both true k = refl
 none_of_both false k = k refl
 
-reads_none : (u : Uses) (q : Query) → (u.run_ns ≡ false → LoadsNo RunNs q) → (u.vtime ≡ false → LoadsNo DsqVtime q) → ReadsNone (left_out_by (form_of u true)) q
-reads_none u (Load t RunNs) x y = none_of_both u.run_ns x
-reads_none u (Load t DsqVtime) x y = none_of_both u.vtime y
-reads_none u (Load t f) x y = refl
-reads_none u (Call f a) x y = tt
-reads_none u (Store t f n) x y = tt
+reads_none : (u : Uses) (waits : Bool) (q : Query) → (u.run_ns ≡ false → LoadsNo RunNs q) → (u.vtime ≡ false → LoadsNo DsqVtime q) → ReadsNone (left_out_by (form_of u waits)) q
+reads_none u waits (Load t RunNs) x y = none_of_both u.run_ns x
+reads_none u waits (Load t DsqVtime) x y = none_of_both u.vtime y
+reads_none u waits (Load t f) x y = refl
+reads_none u waits (Call f a) x y = tt
+reads_none u waits (Store t f n) x y = tt
 
 -- ---- programs
 
-unread : (u : Uses) (b : Callback) (o : Option VerifiedProgram) → IfNoMore u o → IfAsksOnly (ReadsNone (left_out_by (form_of u true))) b o
-unread u b None d = tt
-unread u b (Some q) d = λ is args maps steps slot m shaped fits leads query next on asks.
-    reads_none u query (λ e. d.run_ns e args maps steps slot m shaped fits leads query next on asks) (λ e. d.vtime e args maps steps slot m shaped fits leads query next on asks)
+unread : (u : Uses) (waits : Bool) (b : Callback) (o : Option VerifiedProgram) → IfNoMore u o → IfAsksOnly (ReadsNone (left_out_by (form_of u waits))) b o
+unread u waits b None d = tt
+unread u waits b (Some q) d = λ is args maps steps slot m shaped fits leads query next on asks.
+    reads_none u waits query (λ e. d.run_ns e args maps steps slot m shaped fits leads query next on asks) (λ e. d.vtime e args maps steps slot m shaped fits leads query next on asks)
 
-tells_none : (u : Uses) (b : Callback) → u.slice ≡ false → u.empty_slice ≡ false → (o : Option VerifiedProgram) → IfNoMore u o → IfAsksOnly TellsNoSlice b o
-tells_none u b none given None d = tt
-tells_none u b none given (Some q) d = λ is args maps steps slot m shaped fits leads query next on asks. (
-  d.slice none args maps steps slot m shaped fits leads query next on asks,
-  d.empty_slice given args maps steps slot m shaped fits leads query next on asks,
-)
-
-loaded_none : (a b : Bool) → (a ≡ true → b ≡ true) → b ≡ false → a ≡ false
-loaded_none false b k e = refl
-loaded_none true false k e = absurd (apart (k refl))
-loaded_none true true k e = absurd (apart (sym e))
+none_right : (a b : Bool) → a ≡ true → (a && b) ≡ false → b ≡ false
+none_right true b e k = k
+none_right false b e k = absurd (apart e)
 
 first_none : (a b : Bool) → (a || b) ≡ false → a ≡ false
 first_none false b e = refl
 first_none true b e = e
 
+second_none : (a b : Bool) → (a || b) ≡ false → b ≡ false
+second_none false b e = e
+second_none true b e = absurd (apart (sym e))
+
+gives : (u : Uses) (b : Callback) → u.empty_slice ≡ false → (o : Option VerifiedProgram) → IfNoMore u o → IfAsksOnly GivesOne b o
+gives u b given None d = tt
+gives u b given (Some q) d = λ is. d.empty_slice given
+
+-- what programs do, where none tells a slice of a task that sleeps or is held
+record TellsNoneIdle (file : PolicyFile) (u : Uses) : Type 0 where
+  given : u.empty_slice ≡ false
+  early : u.early_slice ≡ false
+  others : u.slice ≡ true → u.task_by_pid ≡ false
+  plain : u.slice ≡ true → are_linux file.rules ≡ false
+
+tells_none_idle : (file : PolicyFile) (u : Uses) → (are_linux file.rules ≡ true → u.slice ≡ true → tells_idle_slices u ≡ true) → tells_idle_slices u ≡ false → TellsNoneIdle file u
+tells_none_idle file u kept none =
+    let rest = second_none u.empty_slice (u.early_slice || (u.slice && u.task_by_pid)) none in
+    record {
+      given = first_none u.empty_slice (u.early_slice || (u.slice && u.task_by_pid)) none;
+      early = first_none u.early_slice (u.slice && u.task_by_pid) rest;
+      others = λ loads. none_right u.slice u.task_by_pid loads (second_none u.early_slice (u.slice && u.task_by_pid) rest);
+      plain = λ loads. go (are_linux file.rules) refl loads;
+    }
+  where
+    go : (b : Bool) → are_linux file.rules ≡ b → u.slice ≡ true → b ≡ false
+    go false e loads = refl
+    go true e loads = absurd (apart (sym none ∙ kept e loads))
+
+-- so each program loads the slice of its own task at most
+loads_own : (file : PolicyFile) (u : Uses) (b : Callback) → TellsNoneIdle file u → (o : Option VerifiedProgram) → IfNoMore u o → IfPasses file.rules o → IfLoadsItsOwn b o
+loads_own file u b none None d passes = tt
+loads_own file u b none (Some q) d passes = λ is. go u.slice (is_early q.context.callback true) refl refl
+  where
+    go : (x y : Bool) → u.slice ≡ x → is_early q.context.callback true ≡ y → LoadsItsOwn q.context q.code
+    go false y loads early = inl (d.slice loads)
+    go true true loads early = inl (d.early_slice none.early early)
+    go true false loads early =
+        inr (early, plain_runs_ask_for_none q.context q.code passes.program passes.typed (ap are_linux passes.rules ∙ none.plain loads) (d.task_by_pid (none.others loads)))
+
 pub computed_forms_are_whole_in_runs : ComputedFormsAreWholeInRuns
-computed_forms_are_whole_in_runs file p u words built done exact slices =
+computed_forms_are_whole_in_runs file p u waits words built done exact kept =
     let none : DoNoMore u p = do_no_more file p u built done in
-    computed_by AskOnly p u words none exact (λ b. unread u b (program_of p b) (none b))
-    (λ e b. tells_none u b (loaded_none u.slice (tells_idle_slices u) slices e) (first_none u.empty_slice (u.early_slice || (u.slice && u.task_by_pid)) e) (program_of p b) (none b))
+    computed_by AskOnly TellNoIdleSlices p u waits words none exact (λ b. unread u waits b (program_of p b) (none b))
+    (λ e. let tells = tells_none_idle file u kept e in record {
+      given = λ b. gives u b tells.given (program_of p b) (none b);
+      loads = λ b. loads_own file u b tells (program_of p b) (none b) (all_pass file p u built done b);
+    })

@@ -12,6 +12,7 @@ use Rattle.scx_explore_audit.specs.declared.table.Moves.{Moves}
 use Rattle.scx_explore_audit.specs.declared.table.Moves.TheVariants.{Events, Milliseconds}
 use Rattle.scx_explore_audit.specs.Claims.{IsTried, AreFree, TaskSet, of_tasks, ticks, millisecond, IsMillisecond, IsMove}
 use Rattle.scx_explore_audit.specs.Closed.{Claim, IsMet, IsWithin, LeadsBack}
+use Rattle.scx_explore_audit.specs.Tried.{IsTriedIn, row}
 use Rattle.scx_explore_audit.specs.Steps.{Comes, IsSeen, from_wake, from_tick, from_sleep}
 use Rattle.scx_explore_findings.proofs.CommonBeginnings.{went_root}
 use Rattle.scx_explore_audit.proofs.TriedPaths.{machine_behind, there_and_back}
@@ -61,6 +62,10 @@ ends c n s t at met = subst (λ (x : SimState). LeadsBack c n x []) at met
 -- the same of another path that is this one
 pub leads_same : (c : Claim) (n : ℕ) (p q : PathState) (es : List Event) → q ≡ p → LeadsBack c n (machine_of q) es → LeadsBack c n (machine_of p) es
 leads_same c n p q es is back = subst (λ (x : PathState). LeadsBack c n (machine_of x) es) is back
+
+-- and of events that the machine decides
+pub leads_as : (c : Claim) (n : ℕ) (p q : PathState) (list : SimState → List Event) → q ≡ p → LeadsBack c n (machine_of q) (list (machine_of q)) → LeadsBack c n (machine_of p) (list (machine_of p))
+leads_as c n p q list is back = subst (λ (x : PathState). LeadsBack c n (machine_of x) (list (machine_of x))) is back
 
 -- ---- what is left of a millisecond
 
@@ -181,40 +186,48 @@ whole tasks cpus n k wakes sleeps many some =
     ap (λ (i : ℕ). of_tasks (λ t. Wake t) wakes 0 i ++ (ticks 0 k ++ (of_tasks (λ t. Sleep t) sleeps 0 i ++ Clock ∷ []))) many
     ∙ ap (λ (i : ℕ). of_tasks (λ t. Wake t) wakes 0 tasks ++ (ticks 0 i ++ (of_tasks (λ t. Sleep t) sleeps 0 tasks ++ Clock ∷ []))) some
 
+-- milliseconds are tried as they are
+as_they_are : (b : Bool) (r s : SimState) (es : List Event) → IsTriedIn b Milliseconds r s es → IsMove Milliseconds r es
+as_they_are true r s es move = move
+as_they_are false r s es move = move
+
 -- each millisecond leads back
-pub each_millisecond : (c : Claim) (d : ℕ) (m : Moves) (r s : SimState) → m ≡ Milliseconds → ((wakes sleeps : TaskSet) → LeadsBack c d s (from_wake r 0 wakes sleeps)) → (es : List Event) → IsMove m r es → LeadsBack c d s es
-each_millisecond c d m r s are all es some =
-    let move : IsMillisecond (length r.state.world.tasks) (length r.state.world.cpus) es = subst (λ (x : Moves). IsMove x r es) are some in
+pub each_millisecond : (c : Claim) (d : ℕ) (b : Bool) (m : Moves) (r s : SimState) → m ≡ Milliseconds → ((wakes sleeps : TaskSet) → LeadsBack c d s (from_wake r 0 wakes sleeps)) → (es : List Event) → IsTriedIn b m r s es → LeadsBack c d s es
+each_millisecond c d b m r s are all es some =
+    let move : IsMillisecond (length r.state.world.tasks) (length r.state.world.cpus) es = as_they_are b r s es (subst (λ (x : Moves). IsTriedIn b x r s es) are some) in
     let tasks : ℕ = length r.state.world.tasks in
     let cpus : ℕ = length r.state.world.cpus in
     let is : from_wake r 0 move.wakes move.sleeps ≡ es =
     whole tasks cpus (tasks - 0) (cpus - 0) move.wakes move.sleeps (omega arith) (omega arith) ∙ sym move.list in
     subst (λ (l : List Event). LeadsBack c d s l) is (all move.wakes move.sleeps)
 
--- each event does
-pub each_single : (c : Claim) (d : ℕ) (m : Moves) (r s : SimState) → m ≡ Events → ((e : Event) → IsTried r e → LeadsBack c d s (e ∷ [])) → (es : List Event) → IsMove m r es → LeadsBack c d s es
-each_single c d m r s are all es some =
-    let move : IsMove Events r es = subst (λ (x : Moves). IsMove x r es) are some in
-    subst (λ (l : List Event). LeadsBack c d s l) (sym move.2) (all move.0 move.1)
+-- each event does, as often as it is tried
+pub each_single : (c : Claim) (d : ℕ) (b : Bool) (m : Moves) (r s : SimState) → m ≡ Events → ((e : Event) → IsTried r e → LeadsBack c d s (row b s e)) → (es : List Event) → IsTriedIn b m r s es → LeadsBack c d s es
+each_single c d b m r s are all es some = go b all (subst (λ (x : Moves). IsTriedIn b x r s es) are some)
+  where
+    go : (b : Bool) → ((e : Event) → IsTried r e → LeadsBack c d s (row b s e)) → IsTriedIn b Events r s es → LeadsBack c d s es
+    go true each move = subst (λ (l : List Event). LeadsBack c d s l) (sym move.2) (each move.0 move.1)
+    go false each move = subst (λ (l : List Event). LeadsBack c d s l) (sym move.2) (each move.0 move.1)
 
 -- ---- each event
 
 -- those so far, and one more
-pub leads_more : (c : Claim) (d : ℕ) (p q : PathState) (n : ℕ) (event : ℕ → Event) → q ≡ p → ((t : ℕ) → t < n → LeadsBack c d (machine_of p) (event t ∷ [])) → LeadsBack c d (machine_of q) (event n ∷ []) → (t : ℕ) → t < n + 1 → LeadsBack c d (machine_of p) (event t ∷ [])
-leads_more c d p q n event is before here t few =
-    ⊎_elim (λ (e : t ≡ n). subst (λ (k : ℕ). LeadsBack c d (machine_of p) (event k ∷ [])) (sym e) (leads_same c d p q (event n ∷ []) is here))
+pub leads_more : (c : Claim) (d : ℕ) (p q : PathState) (n : ℕ) (list : SimState → ℕ → List Event) → q ≡ p → ((t : ℕ) → t < n → LeadsBack c d (machine_of p) (list (machine_of p) t)) → LeadsBack c d (machine_of q) (list (machine_of q) n) → (t : ℕ) → t < n + 1 → LeadsBack c d (machine_of p) (list (machine_of p) t)
+leads_more c d p q n list is before here t few =
+    ⊎_elim
+    (λ (e : t ≡ n). subst (λ (k : ℕ). LeadsBack c d (machine_of p) (list (machine_of p) k)) (sym e) (leads_as c d p q (λ s. list s n) is here))
     (λ (e : t ≡ n → ⊥). before t (omega (arith, e, few)))
     (cases_eq t n)
 
 -- before the first one
-pub leads_none : (c : Claim) (d : ℕ) (p : PathState) (event : ℕ → Event) → (t : ℕ) → t < 0 → LeadsBack c d (machine_of p) (event t ∷ [])
-leads_none c d p event t few = absurd (omega (arith, few))
+pub leads_none : (c : Claim) (d : ℕ) (p : PathState) (list : SimState → ℕ → List Event) → (t : ℕ) → t < 0 → LeadsBack c d (machine_of p) (list (machine_of p) t)
+leads_none c d p list t few = absurd (omega (arith, few))
 
 -- all of them
-pub each_event : (c : Claim) (d : ℕ) (p q r : PathState) (tasks cpus : ℕ) → tasks ≡ length p.root.state.world.tasks → cpus ≡ length p.root.state.world.cpus → q ≡ p → r ≡ q → ((t : ℕ) → t < tasks → LeadsBack c d (machine_of p) (Wake t ∷ [])) → ((t : ℕ) → t < tasks → LeadsBack c d (machine_of p) (Sleep t ∷ [])) → ((k : ℕ) → k < cpus → LeadsBack c d (machine_of q) (Tick k ∷ [])) → LeadsBack c d (machine_of r) (Clock ∷ []) → (e : Event) → IsTried p.root e → LeadsBack c d (machine_of p) (e ∷ [])
-each_event c d p q r tasks cpus many some second third wakes sleeps ticks clock (Wake t) tried = wakes t (omega (arith, tried, many))
-each_event c d p q r tasks cpus many some second third wakes sleeps ticks clock (Sleep t) tried = sleeps t (omega (arith, tried, many))
-each_event c d p q r tasks cpus many some second third wakes sleeps ticks clock (Tick k) tried = leads_same c d p q (Tick k ∷ []) second (ticks k (omega (arith, tried, some)))
-each_event c d p q r tasks cpus many some second third wakes sleeps ticks clock Clock tried = leads_same c d p r (Clock ∷ []) (third ∙ second) clock
-each_event c d p q r tasks cpus many some second third wakes sleeps ticks clock (SetWeight g w) tried = absurd tried
-each_event c d p q r tasks cpus many some second third wakes sleeps ticks clock (SetTaskWeight t w) tried = absurd tried
+pub each_event : (c : Claim) (d : ℕ) (b : Bool) (p q r : PathState) (tasks cpus : ℕ) → tasks ≡ length p.root.state.world.tasks → cpus ≡ length p.root.state.world.cpus → q ≡ p → r ≡ q → ((t : ℕ) → t < tasks → LeadsBack c d (machine_of p) (row b (machine_of p) (Wake t))) → ((t : ℕ) → t < tasks → LeadsBack c d (machine_of p) (row b (machine_of p) (Sleep t))) → ((k : ℕ) → k < cpus → LeadsBack c d (machine_of q) (row b (machine_of q) (Tick k))) → LeadsBack c d (machine_of r) (row b (machine_of r) Clock) → (e : Event) → IsTried p.root e → LeadsBack c d (machine_of p) (row b (machine_of p) e)
+each_event c d b p q r tasks cpus many some second third wakes sleeps ticks clock (Wake t) tried = wakes t (omega (arith, tried, many))
+each_event c d b p q r tasks cpus many some second third wakes sleeps ticks clock (Sleep t) tried = sleeps t (omega (arith, tried, many))
+each_event c d b p q r tasks cpus many some second third wakes sleeps ticks clock (Tick k) tried = leads_as c d p q (λ s. row b s (Tick k)) second (ticks k (omega (arith, tried, some)))
+each_event c d b p q r tasks cpus many some second third wakes sleeps ticks clock Clock tried = leads_as c d p r (λ s. row b s Clock) (third ∙ second) clock
+each_event c d b p q r tasks cpus many some second third wakes sleeps ticks clock (SetWeight g w) tried = absurd tried
+each_event c d b p q r tasks cpus many some second third wakes sleeps ticks clock (SetTaskWeight t w) tried = absurd tried

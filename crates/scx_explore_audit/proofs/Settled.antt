@@ -1,4 +1,4 @@
--- What holds of the states of a table, as they are gone through.
+-- Facts of a table's states, in the order in which the audit reads them.
 use Rattle.std.proofs.Common.{◌≡◌, ℕ, zero, suc, ◌+◌, ◌<◌, ◌≤◌, List, [], ◌∷◌, length, take, set, get_or, All, Bool, true, false, None, Result, Ok, Err, refl, sym, ap, ◌∙◌, subst, arith, ⊎_elim}
 use Rattle.std.specs.Prelude.{IfOk, IfSome}
 use Rattle.std.proofs.lemmas.Bool.{cases_eq}
@@ -11,19 +11,22 @@ use Rattle.scx_explore_findings.specs.Path.{PathState, machine_of, went_back}
 use Rattle.scx_explore_states.specs.declared.form.Form.{Form}
 use Rattle.scx_explore_machines.specs.Seen.{state_at}
 use Rattle.scx_explore_states.specs.Written.{IsWritten}
-use Rattle.scx_explore_audit.specs.Claims.{IsMove, IsTried}
-use Rattle.scx_explore_audit.specs.Closed.{Claim, IsMet, IsWithin, LeadsBack, IsDone, IsSettled, IsClosed, RespectsRuns, depth_at}
+use Rattle.scx_explore_audit.specs.Claims.{IsTried}
+use Rattle.scx_explore_audit.specs.Closed.{Claim, HasRoomForRows, IsMet, IsWithin, LeadsBack, IsDone, IsSettled, IsClosed, FollowsRuns, depth_at}
+use Rattle.scx_explore_audit.specs.Tried.{IsTriedIn}
 use Rattle.scx_explore_audit.specs.Laws.{NoneIn}
 use Rattle.scx_explore_audit.proofs.Covered.{closed_tables_cover}
 
 -- ---- a state
 
 -- the state is written as the words of that number, and no move leads out of the table
-pub done : (c : Claim) (p : PathState) (s : SimState) (xs : List ℕ) (k n : ℕ) → All (IsTried p.root) p.events → AreAccepted p.root p.events → length p.events < p.room → (machine_of p).state.world.ejected ≡ None → s ≡ machine_of p → xs ≡ state_at c.kept k → IsWritten c.form c.ids xs s → n ≡ depth_at c k + 1 → ((es : List Event) → IsMove c.moves p.root es → LeadsBack c n (machine_of p) es) → IsDone c p.root p.room k
-done c p s xs k n tried accepted few force here is written behind moves = record {
+pub done : (c : Claim) (p : PathState) (s : SimState) (xs : List ℕ) (k n : ℕ) → All (IsTried p.root) p.events → AreAccepted p.root p.events → length p.events < p.room → (machine_of p).state.world.ejected ≡ None → s ≡ machine_of p → xs ≡ state_at c.kept k → IsWritten c.form c.ids xs s → n ≡ depth_at c k + 1 → ((es : List Event) → IsTriedIn c.form.slices c.moves p.root (machine_of p) es → LeadsBack c n (machine_of p) es) → HasRoomForRows c.form c.moves p.root p.room (length p.events) (machine_of p) → (c.form.waits ≡ false → s.state.world.clock < s.state.policy.timeout_ms) → IsDone c p.root p.room k
+done c p s xs k n tried accepted few force here is written behind moves fits early = record {
   state = machine_of p;
   near = record { events = p.events; tried = tried; accepted = accepted; state = refl; force = force; few = few };
   written = subst (λ (x : SimState). IsWritten c.form c.ids (state_at c.kept k) x) here (subst (λ (ys : List ℕ). IsWritten c.form c.ids ys s) is written);
+  fits = fits;
+  early = subst (λ (x : SimState). c.form.waits ≡ false → x.state.world.clock < x.state.policy.timeout_ms) here early;
   moves = λ es move. subst (λ (m : ℕ). LeadsBack c m (machine_of p) es) behind (moves es move);
 }
 
@@ -123,8 +126,8 @@ all_taken {X} P xs n past all = subst (λ (ys : List X). All P ys) (take_all n x
 -- ---- the answer
 
 -- where the answer is that the table is closed, no list shows anything
-pub told : {E : Type 0} (c : Claim) (root : SimState) (room : ℕ) (r : Result Bool E) → IfOk r (λ b. b ≡ true → IsClosed c root room) → IfOk r (λ b. b ≡ true → RespectsRuns c.form c.ids c.moves c.sorts root room → NoneIn c.moves c.limit c.sorts root)
-told c root room (Ok b) shut = λ is respects. closed_tables_cover c root room respects (shut is)
+pub told : {E : Type 0} (c : Claim) (root : SimState) (room : ℕ) (r : Result Bool E) → IfOk r (λ b. b ≡ true → IsClosed c root room) → IfOk r (λ b. b ≡ true → FollowsRuns c.form c.ids c.moves c.sorts root room → NoneIn c.moves c.limit c.sorts root)
+told c root room (Ok b) shut = λ is follows. closed_tables_cover c root room follows (shut is)
 told c root room (Err e) shut = tt
 
 -- what holds in any case

@@ -1,6 +1,6 @@
 -- By a form that keeps everything, two states with the same words are matched move by move.
 use Rattle.std.proofs.Common.{◌≡◌, ℕ, zero, suc, ◌+◌, ◌-◌, ◌<◌, ◌≤◌, ◌==◌, ◌&&◌, not, ◌⊎◌, inl, inr, Bool, true, false, List, [], ◌∷◌, ◌++◌, length, map, All, Option, Some, None, refl, sym, ap, ◌∙◌, subst, arith, ⊎_elim}
-use Rattle.std.specs.Prelude.{if◌then◌else◌, option_map, Result, Ok, Err, IfOk}
+use Rattle.std.specs.Prelude.{if◌then◌else◌, option_map}
 use Rattle.std.proofs.lemmas.Bool.{cases_lt, eq-eqb}
 use Rattle.std.proofs.lemmas.List.Elements.{All-head, All-tail, All-weaker}
 use Rattle.scx_dsq.specs.declared.entries.Entry.{Entry}
@@ -22,13 +22,13 @@ use Rattle.scx_load_driver.specs.Runs.{stepped_all, AreAccepted}
 use Rattle.scx_explore_findings.specs.declared.finding.Sort.{Sort}
 use Rattle.scx_explore_findings.specs.Findings.{fault_in, stall_in, exit_in, IsIdleBehind}
 use Rattle.scx_explore_findings.specs.declared.finding.Sort.TheVariants as sort
-use Rattle.scx_explore_findings.specs.Asked.{AskAnyhow, AskOnly, OwnCallsAsk}
+use Rattle.scx_explore_findings.specs.Asked.{AskOnly}
 use Rattle.scx_explore_findings.specs.Delayed.{later_by, delayed_task, delayed_eject, delay, delay_machine, AreClockless, IsSteady, AnswersLater}
 use Rattle.scx_explore_findings.specs.Hidden.{Hidden, since_unless, hidden_in, all_hidden, with_tasks}
 use Rattle.scx_explore_findings.specs.HiddenLaws.{LeavesOut}
 use Rattle.scx_explore_findings.specs.HiddenMachines as hidden
 use Rattle.scx_explore_findings.specs.IdleSlices as idle
-use Rattle.scx_explore_findings.specs.IdleSlices.{runs_on, is_put_nowhere, is_idle, is_idle_of, any_task, sliceless_if, without_slices, TellsNoSlice}
+use Rattle.scx_explore_findings.specs.IdleSlices.{runs_on, is_put_nowhere, is_idle, is_idle_of, any_task, sliceless_if, without_slices, TellNoIdleSlices}
 use Rattle.scx_explore_findings.proofs.IdleRecords.{twice as erased_twice}
 use Rattle.scx_explore_findings.proofs.Words.{idle_written}
 use Rattle.scx_explore_findings.specs.HiddenMachines.{hide_machine}
@@ -38,32 +38,31 @@ use Rattle.scx_explore_findings.specs.UnreadParts.{AreSame, AnswersAlike, parts_
 use Rattle.scx_explore_findings.specs.WholeForms.{TellsNoTime, IsWholeBy, IsPlain, IsLed}
 use Rattle.scx_explore_findings.proofs.DelayedMachines.{events_dont_tell_times, fault_shown, stall_shown, exit_shown, force_back, idle_back, idle_on, written_back, written_on, delay_none}
 use Rattle.scx_explore_findings.proofs.EventWalk.{IsWeighing}
-use Rattle.scx_explore_findings.proofs.FirstLed.{first_led}
 use Rattle.scx_explore_findings.proofs.Led.{AreUnweighing, led_one, led_all, led_suited}
 use Rattle.scx_explore_findings.proofs.EventSizes.{policy_after}
-use Rattle.scx_explore_findings.proofs.Helpers.{IsTold}
 use Rattle.scx_explore_findings.proofs.LeftOut.{omit_machine, none_less, parts_machine}
 use Rattle.scx_explore_findings.proofs.Machines.{refusal_there, late_alike}
 use Rattle.scx_explore_findings.proofs.OwnCalls.{left_out_if, own_calls_tell_none}
-use Rattle.scx_explore_findings.proofs.Steps.{TellNothing}
+use Rattle.scx_explore_findings.proofs.Steps.{TellNothing, AskNone}
 use Rattle.scx_explore_findings.proofs.Shown.{same_machines_show_the_same, idle_shown}
 use Rattle.scx_explore_findings.proofs.SameMachines.{events_read_no_such_part, counted, room_for_one, room_for_rest, one_longer, states_back}
 use Rattle.scx_explore_findings.proofs.SameShown.{such_parts_show_nothing}
-use Rattle.scx_explore_findings.proofs.SameTold.{IsSuited, rested, resting, clock_kept, clock_told, whole_told}
+use Rattle.scx_explore_findings.proofs.SameTold.{IsSuited, rested, resting, words_keep, clock_kept, clock_told, whole_told}
 use Rattle.scx_explore_findings.proofs.UnusedGroups.{unused, unused_is_steady, unused_there, unused_here, same_itself}
+use Rattle.scx_explore_states.specs.Rows.{entries_of}
+use Rattle.scx_explore_states.specs.Telling.{KeepTheSame}
 use Rattle.scx_explore_states.specs.Words.{most_queues}
-use Rattle.scx_explore_states.specs.Written.{IsWritten}
+use Rattle.scx_explore_states.specs.Written.{AreKnown, IsWritten}
 use Rattle.scx_explore_states.specs.declared.form.Form.{Form}
 use Rattle.scx_explore_audit.specs.declared.table.Moves.{Moves}
 use Rattle.scx_explore_audit.specs.declared.table.Moves.TheVariants.{Events, Milliseconds}
 use Rattle.scx_explore_audit.specs.Claims.{IsTried, IsMove, IsFree, TaskSet, of_tasks, ticks, millisecond, ShowsNoneAtFirst, list_of}
-use Rattle.scx_explore_audit.specs.Closed.{Claim, AreNumbersOf, IsReached, IsNear, IsMatched, IsSurvived, CallsRunAlong, IsClosed}
-use Rattle.scx_explore_audit.specs.Whole.{HasRoom, WholeFormsAreRespected, FormsWholeInRunsAreRespected, NeedsNoPremise}
-use Rattle.scx_explore_audit.proofs.Covered.{closed_tables_cover}
+use Rattle.scx_explore_audit.specs.Closed.{IsReached, IsNear, IsMatched, IsSurvived, CallsRunAlong}
+use Rattle.scx_explore_audit.specs.Whole.{HasRoom}
 
 -- ---- events that change no weight
 
-tried_none : (r : SimState) (e : Event) → IsTried r e → IsWeighing e → ⊥
+pub tried_none : (r : SimState) (e : Event) → IsTried r e → IsWeighing e → ⊥
 tried_none r (Wake t) tried is = is
 tried_none r (Sleep t) tried is = is
 tried_none r (Tick c) tried is = is
@@ -75,7 +74,7 @@ both_none : (es fs : List Event) → AreUnweighing es → AreUnweighing fs → A
 both_none [] fs none more = more
 both_none (e ∷ es) fs none more = (none.0, both_none es fs none.1 more)
 
-tried_all : (r : SimState) (es : List Event) → All (IsTried r) es → AreUnweighing es
+pub tried_all : (r : SimState) (es : List Event) → All (IsTried r) es → AreUnweighing es
 tried_all r [] tried = tt
 tried_all r (e ∷ es) tried = (tried_none r e (All-head (IsTried r) e es tried), tried_all r es (All-tail (IsTried r) e es tried))
 
@@ -109,7 +108,7 @@ moves_none moves r (es ∷ list) made = both_none es (list_of list) (move_none m
 
 -- ---- room for events
 
-has_one : (s : SimState) (e : Event) → s.events ≤ max_events → refusal s e ≡ None → s.events < max_events
+pub has_one : (s : SimState) (e : Event) → s.events ≤ max_events → refusal s e ≡ None → s.events < max_events
 has_one s e over ok =
     ⊎_elim (λ (l : s.events < max_events). l)
     (λ (l : max_events ≤ s.events).
@@ -132,7 +131,7 @@ one_counts i n k j e f = omega (arith, e, f)
 one_more_fits : (i n k m : ℕ) → i ≡ n + 1 → i + k ≤ m → n + suc k ≤ m
 one_more_fits i n k m e l = omega (arith, e, l)
 
-counts : (s : SimState) (events : List Event) → AreAccepted s events → (stepped_all s events).events ≡ s.events + length events
+pub counts : (s : SimState) (events : List Event) → AreAccepted s events → (stepped_all s events).events ≡ s.events + length events
 counts s [] all = omega arith
 counts s (e ∷ es) all =
     let one : (after_event s e).events ≡ s.events + 1 = ap (λ o. (stepped_if o s e).events) all.0 in
@@ -148,14 +147,14 @@ survivors_fit s (e ∷ es) over all =
     let one : (after_event s e).events ≡ s.events + 1 = ap (λ o. (stepped_if o s e).events) all.0 in
     one_more_fits (after_event s e).events s.events (length es) max_events one (survivors_fit (after_event s e) es (after_over s e (has_one s e over all.0)) all.2)
 
-bits_apart : (b : Bool) → b ≡ false → b ≡ true → ⊥
+pub bits_apart : (b : Bool) → b ≡ false → b ≡ true → ⊥
 bits_apart b x y = absurd (cc)
 
 -- ---- pairs of machines that answer alike
 
 -- whatever the second machine doesn't show the first one doesn't show either, and words of the second
 -- one are words of the first one
-record ShowsLess (f : Form) (ids : List ℕ) (s t : SimState) : Type 0 where
+pub record ShowsLess (f : Form) (ids : List ℕ) (s t : SimState) : Type 0 where
   pub force : s.state.world.ejected ≡ None → t.state.world.ejected ≡ None
   pub faults : fault_in s.state.world.ejected ≡ fault_in t.state.world.ejected
   pub stalls : stall_in s.state.world.ejected ≡ stall_in t.state.world.ejected
@@ -163,28 +162,34 @@ record ShowsLess (f : Form) (ids : List ℕ) (s t : SimState) : Type 0 where
   pub idle : (e : Event) → IsIdleBehind t e None → IsIdleBehind s e None
   pub written : (xs : List ℕ) → IsWritten f ids xs t → IsWritten f ids xs s
 
-free_so : (f : Form) (ids : List ℕ) (s t : SimState) → ShowsLess f ids s t → (e : Event) (x : Sort) → IsFree x t e → IsFree x s e
+pub free_so : (f : Form) (ids : List ℕ) (s t : SimState) → ShowsLess f ids s t → (e : Event) (x : Sort) → IsFree x t e → IsFree x s e
 free_so f ids s t less e (sort.Fault g) k = λ is. k (sym less.faults ∙ is)
 free_so f ids s t less e sort.Stall k = less.stalls ∙ k
 free_so f ids s t less e sort.Idle k = λ force. less.idle e (k (less.force force))
 free_so f ids s t less e sort.Overtaken k = k
 free_so f ids s t less e sort.Exit k = less.exits ∙ k
 
+-- what the events do in the first state they do in the second one
+pub record IsMatchedAs (f : Form) (ids : List ℕ) (sorts : List Sort) (s t : SimState) (es : List Event) : Type 0 where
+  pub free : ShowsNoneAtFirst sorts t es → ShowsNoneAtFirst sorts s es
+  pub there : IsSurvived s es → IsSurvived t es
+  pub written : (xs : List ℕ) → IsSurvived s es → IsWritten f ids xs (stepped_all t es) → IsWritten f ids xs (stepped_all s es)
+
 -- a machine has the groups and rules of that one
-record IsOf (root s : SimState) : Type 0 where
+pub record IsOf (root s : SimState) : Type 0 where
   pub groups : s.state.world.tree.groups ≡ root.state.world.tree.groups
   pub rules : s.state.world.rules ≡ root.state.world.rules
 
-is_of : (shapes : List Shape) (root s : SimState) → IsLed shapes root s → IsOf root s
+pub is_of : (shapes : List Shape) (root s : SimState) → IsLed shapes root s → IsOf root s
 is_of shapes root s led = record { groups = sym led.tidy.1.0.0; rules = led.rules }
 
 -- that is known of each event that is accepted, as long as the policy stays in force
-abbrev Along : (SimState → Event → Type 0) → SimState → List Event → Type 0
+abbrev pub Along : (SimState → Event → Type 0) → SimState → List Event → Type 0
 Along K s [] = Unit {0}
 Along K s (e ∷ es) = refusal s e ≡ None → K s e × ((after_event s e).state.world.ejected ≡ None → Along K (after_event s e) es)
 
 -- pairs of machines that answer an event alike, and are pairs again after it, where that is known of the second one
-record AreLinked (root : SimState) (f : Form) (ids : List ℕ) (K : SimState → Event → Type 0) (R : SimState → SimState → Type 0) : Type 0 where
+pub record AreLinked (root : SimState) (f : Form) (ids : List ℕ) (K : SimState → Event → Type 0) (R : SimState → SimState → Type 0) : Type 0 where
   pub shows : (s t : SimState) → R s t → ShowsLess f ids s t
   pub refused : (s t : SimState) (e : Event) → R s t → s.events < max_events → t.events < max_events → refusal s e ≡ refusal t e
   pub after :
@@ -198,7 +203,7 @@ record AreLinked (root : SimState) (f : Form) (ids : List ℕ) (K : SimState →
       → R (after_event s e) (after_event t e)
 
 -- two of a pair to which events have led, with room for these events
-record AreAt (shapes : List Shape) (root : SimState) (K : SimState → Event → Type 0) (R : SimState → SimState → Type 0) (s t : SimState) (es : List Event) : Type 0 where
+pub record AreAt (shapes : List Shape) (root : SimState) (K : SimState → Event → Type 0) (R : SimState → SimState → Type 0) (s t : SimState) (es : List Event) : Type 0 where
   pub pair : R s t
   pub here : IsLed shapes root s
   pub there : IsLed shapes root t
@@ -267,22 +272,24 @@ module _ (shapes : List Shape) (root : SimState) (f : Form) (ids : List ℕ) (K 
   stays_so s t [] at all = at.pair
   stays_so s t (e ∷ es) at all = stays_so (after_event s e) (after_event t e) es (next s t e es at all.0 ((less s t e es at all.0).force all.1)) all.2
 
-  -- so each move is matched
-  matched_so : (moves : Moves) (sorts : List Sort) (r s t : SimState) (es : List Event) → AreAt shapes root K R s t es → IsMove moves r es → IsMatched f ids moves sorts r s t es
-  matched_so moves sorts r s t es at is = record {
-    other = es;
-    move = is;
+  -- so what the events do in the first one they do in the second one
+  pub matched_as : (sorts : List Sort) (s t : SimState) (es : List Event) → AreAt shapes root K R s t es → IsMatchedAs f ids sorts s t es
+  matched_as sorts s t es at = record {
     free = shows_so sorts s t es at;
     there = survives_so s t es at;
     written = λ xs survived written. (linked.shows (stepped_all s es) (stepped_all t es) (stays_so s t es at survived)).written xs written;
   }
 
+  -- and each move is matched
+  matched_so : (moves : Moves) (sorts : List Sort) (r s t : SimState) (es : List Event) → AreAt shapes root K R s t es → IsMove moves r es → IsMatched f ids moves sorts r s t es
+  matched_so moves sorts r s t es at is = let m = matched_as sorts s t es at in record { other = es; move = is; free = m.free; there = m.there; written = m.written }
+
 -- nothing is known
-abbrev AnyKnown : SimState → Event → Type 0
+abbrev pub AnyKnown : SimState → Event → Type 0
 AnyKnown s e = Unit {0}
 
 -- one after another
-shown_both : (f : Form) (ids : List ℕ) (a b c : SimState) → ShowsLess f ids a b → ShowsLess f ids b c → ShowsLess f ids a c
+pub shown_both : (f : Form) (ids : List ℕ) (a b c : SimState) → ShowsLess f ids a b → ShowsLess f ids b c → ShowsLess f ids a c
 shown_both f ids a b c x y = record {
   force = λ is. y.force (x.force is);
   faults = x.faults ∙ y.faults;
@@ -466,19 +473,19 @@ omit_is true h s = refl
 omit_is false h s = parts_machine h s
 
 -- no program of the policy asks for what is left out, or none of its programs that the event calls
-abbrev Tells : Bool → Hidden → PolicyState → SimState → Event → Type 0
-Tells less h p s e = TellNothing (left_out_if less h) p ⊎ OwnCallsAsk (IsTold (left_out_if less h)) p (calls_of s e)
+abbrev pub Tells : Bool → Hidden → PolicyState → SimState → Event → Type 0
+Tells less h p s e = TellNothing (left_out_if less h) p ⊎ AskNone (left_out_if less h) p (calls_of s e)
 
 -- the second machine is the same as one of such a pair, but for what is left out
-record AreOmitted (less : Bool) (h : Hidden) (p : PolicyState) (R : SimState → SimState → Type 0) (s t : SimState) : Type 0 where
+pub record AreOmitted (less : Bool) (h : Hidden) (p : PolicyState) (R : SimState → SimState → Type 0) (s t : SimState) : Type 0 where
   pub one : SimState
   pub near : R s one
   pub there : omit_machine (left_out_if less h) one ≡ omit_machine (left_out_if less h) t
   pub policy : t.state.policy ≡ p
 
-module _ (root : SimState) (f : Form) (ids : List ℕ) (less : Bool) (h : Hidden) (p : PolicyState) (stay : h.waits ≡ false) (out : LeavesOut f h) (sliceless : less ≡ true → f.idle_slices ≡ false) where
+module _ (f : Form) (ids : List ℕ) (less : Bool) (h : Hidden) (out : LeavesOut f h) (sliceless : less ≡ true → f.idle_slices ≡ false) where
   -- what is hidden shows nothing
-  shown_hidden : (s t : SimState) → hidden.AreSame h s t → ShowsLess f ids s t
+  pub shown_hidden : (s t : SimState) → hidden.AreSame h s t → ShowsLess f ids s t
   shown_hidden s t same =
       let there = same_machines_show_the_same h s t same in
       let back = same_machines_show_the_same h t s (sym same) in
@@ -505,14 +512,14 @@ module _ (root : SimState) (f : Form) (ids : List ℕ) (less : Bool) (h : Hidden
         written = λ xs is. idle_written f ids xs t s (free refl) (sym same) is;
       }
 
-  shown_omitted : (s t : SimState) → omit_machine (left_out_if less h) s ≡ omit_machine (left_out_if less h) t → ShowsLess f ids s t
+  pub shown_omitted : (s t : SimState) → omit_machine (left_out_if less h) s ≡ omit_machine (left_out_if less h) t → ShowsLess f ids s t
   shown_omitted s t same =
       let a = resting less s in
       let b = resting less t in
       shown_both f ids s a t (shown_rested less sliceless s a (rested_so less s))
       (shown_both f ids a b t (shown_hidden a b (sym (omit_is less h s) ∙ (same ∙ omit_is less h t))) (shown_rested less sliceless b t (rested_back less t b (rested_so less t))))
 
-  module _ (R : SimState → SimState → Type 0) (linked : AreLinked root f ids AnyKnown R) where
+  module _ (root : SimState) (p : PolicyState) (stay : h.waits ≡ false) (R : SimState → SimState → Type 0) (linked : AreLinked root f ids AnyKnown R) where
     module _ (s t : SimState) (e : Event) (x : AreOmitted less h p R s t) where
       as_many_there : x.one.events ≡ t.events
       as_many_there = ap (λ (y : SimState). y.events) x.there
@@ -525,7 +532,7 @@ module _ (root : SimState) (f : Form) (ids : List ℕ) (less : Bool) (h : Hidden
 
       after_omitted : Tells less h p t e → IsOf root (after_event s e) → IsOf root (after_event t e) → s.events < max_events → t.events < max_events → AreOmitted less h p R (after_event s e) (after_event t e)
       after_omitted tells of_s of_t room there =
-          let own = subst (λ (q : PolicyState). TellNothing (left_out_if less h) q ⊎ OwnCallsAsk (IsTold (left_out_if less h)) q (calls_of t e)) (sym x.policy) tells in
+          let own = subst (λ (q : PolicyState). Tells less h q t e) (sym x.policy) tells in
           let alike = late_alike (left_out_if less h) stay t x.one (sym x.there) e own in
           let of_one : IsOf root (after_event x.one e) = record { groups = sym (ap (λ (y : SimState). y.state.world.tree.groups) alike) ∙ of_t.groups; rules = sym (ap (λ (y : SimState). y.state.world.rules) alike) ∙ of_t.rules } in
           record {
@@ -535,7 +542,7 @@ module _ (root : SimState) (f : Form) (ids : List ℕ) (less : Bool) (h : Hidden
             policy = policy_after t e ∙ x.policy;
           }
 
-    omitted_linked : AreLinked root f ids (Tells less h p) (AreOmitted less h p R)
+    pub omitted_linked : AreLinked root f ids (Tells less h p) (AreOmitted less h p R)
     omitted_linked = record {
       shows = λ s t x. shown_both f ids s x.one t (linked.shows s x.one x.near) (shown_omitted x.one t x.there);
       refused = λ s t e x room there. refused_omitted s t e x room there;
@@ -543,12 +550,12 @@ module _ (root : SimState) (f : Form) (ids : List ℕ) (less : Bool) (h : Hidden
     }
 
 -- programs that tell nothing of it tell nothing along any events
-along_any : (less : Bool) (h : Hidden) (p : PolicyState) → TellNothing (left_out_if less h) p → (s : SimState) (es : List Event) → Along (Tells less h p) s es
+pub along_any : (less : Bool) (h : Hidden) (p : PolicyState) → TellNothing (left_out_if less h) p → (s : SimState) (es : List Event) → Along (Tells less h p) s es
 along_any less h p tells s [] = tt
 along_any less h p tells s (e ∷ es) = λ fine. (inl tells, λ force. along_any less h p tells (after_event s e) es)
 
 -- nor do those that tell nothing in their runs, where callbacks run as they were verified
-along_runs : (less : Bool) (h : Hidden) (p : PolicyState) → AskOnly (ReadsNone h) p → (less ≡ true → AskOnly TellsNoSlice p) → (s : SimState) (es : List Event) → CallsRunAlong s es → Along (Tells less h p) s es
+pub along_runs : (less : Bool) (h : Hidden) (p : PolicyState) → AskOnly (ReadsNone h) p → (less ≡ true → TellNoIdleSlices p) → (s : SimState) (es : List Event) → CallsRunAlong s es → Along (Tells less h p) s es
 along_runs less h p unread told s [] run = tt
 along_runs less h p unread told s (e ∷ es) run = λ fine. (
   inr (own_calls_tell_none less h p (calls_of s e) unread told (run fine).0),
@@ -568,7 +575,7 @@ idle_alike v w cpus queues u =
     ∙ ap (λ (b : Bool). not (runs_on u w.cpus) && b) (sym (nowhere_same (entry_of v.queues u)) ∙ (ap is_put_nowhere (queues.places u) ∙ nowhere_same (entry_of w.queues u)))
 
 -- records with or without slices of these tasks
-rested_is : (less : Bool) (w : WorldState) → rested less w ≡ without_slices (is_idle_of (λ t. less) w) w.tasks
+pub rested_is : (less : Bool) (w : WorldState) → rested less w ≡ without_slices (is_idle_of (λ t. less) w) w.tasks
 rested_is true w = refl
 rested_is false w = sym (none_less (is_idle_of (λ t. false) w) w.tasks (λ t. refl))
 
@@ -694,141 +701,200 @@ later_than n d l = omega (arith, l)
 earlier : (n d : ℕ) → d < n → d ≤ n
 earlier n d l = omega (arith, l)
 
-module _ (Ask : (Query → Type 0) → PolicyState → Type 0) (f : Form) (ids : List ℕ) (moves : Moves) (sorts : List Sort) (root : SimState) (room : ℕ) (shapes : List Shape) (whole : IsWholeBy Ask root.state.policy f) (plain : IsPlain root) (led : IsLed shapes root root) (few : length ids ≤ most_queues) (fits : HasRoom moves root room) (xs : List ℕ) (s t : SimState) (es : List Event) (reached : IsReached moves root s) (near : IsNear root room t) (known : (less : Bool) → (less ≡ true → Ask TellsNoSlice root.state.policy) → Along (Tells less whole.hidden root.state.policy) t es) (here : IsWritten f ids xs s) (there : IsWritten f ids xs t) (move : IsMove moves root es) where
-  led_s : IsLed shapes root s
-  led_s = subst (IsLed shapes root) (sym reached.state) (led_all shapes root root (list_of reached.list) reached.accepted (moves_none moves root reached.list reached.made) led)
+-- ---- two machines that are told of each other
 
-  led_t : IsLed shapes root t
-  led_t = subst (IsLed shapes root) (sym near.state) (led_all shapes root root near.events near.accepted (tried_all root near.events near.tried) led)
+-- a machine with the policy, the rules and the groups of that one, in which each push has a number of its own
+pub record IsFrom (root s : SimState) : Type 0 where
+  pub policy : s.state.policy ≡ root.state.policy
+  pub same : IsOf root s
+  pub stamped : IsStamped s.state.world.queues
 
+pub from_led : (shapes : List Shape) (root s : SimState) → IsLed shapes root s → IsFrom root s
+from_led shapes root s led = record { policy = led.policy; same = is_of shapes root s led; stamped = led.fine.sound.stamped }
+
+-- both are the same without what is left out, once one is as late as the other
+pub record AreSameLater (root : SimState) (f : Form) (less : Bool) (h : Hidden) (s t : SimState) : Type 0 where
+  pub here : IsFrom root s
+  pub there : IsFrom root t
+  pub clock : f.clock ≡ true → s.state.world.clock ≡ t.state.world.clock
+  pub quota : has_quota root.state.world.tree.groups ≡ true → s.state.world.clock ≡ t.state.world.clock
+  pub on : (d : ℕ) → s.state.world.clock + d ≡ t.state.world.clock → AreSame (hide_machine h (delay_machine d (resting less s))) (hide_machine h (resting less t))
+  pub back : (d : ℕ) → t.state.world.clock + d ≡ s.state.world.clock → AreSame (hide_machine h (delay_machine d (resting less t))) (hide_machine h (resting less s))
+
+-- a machine that is the same as that one, but for records of tasks, and another one that is the same later
+timed_so : (root : SimState) → are_linux root.state.world.rules ≡ false → has_quota root.state.world.tree.groups ≡ false → (x y z : SimState) → IsFrom root x → (d : ℕ) → (ts : List Task) → z ≡ record x { state = with_world x.state (with_tasks x.state.world ts) } → AreSame (delay_machine d z) y
+    → AreTimed root.state.policy z y
+timed_so root rules free x y z l d ts is same =
+    let groups : z.state.world.tree.groups ≡ x.state.world.tree.groups = ap (λ (u : SimState). u.state.world.tree.groups) is in
+    let free_z : has_quota z.state.world.tree.groups ≡ false = ap has_quota groups ∙ (ap has_quota l.same.groups ∙ free) in
+    record {
+      later = d;
+      other = unused z;
+      events = refl;
+      before = unused_there z.state z.state free_z (same_itself z.state (subst (λ (u : SimState). IsStamped u.state.world.queues) (sym is) l.stamped));
+      steady = unused_is_steady z.state;
+      free = free_z;
+      rules = ap (λ (u : SimState). are_linux u.state.world.rules) is ∙ (ap are_linux l.same.rules ∙ rules);
+      policy = ap (λ (u : SimState). u.state.policy) is ∙ l.policy;
+      after = unused_here (delay_machine d z).state y.state free_z same;
+    }
+
+module _ (root : SimState) (f : Form) (ids : List ℕ) (pushes : f.pushes ≡ false) (rules : are_linux root.state.world.rules ≡ false) (less : Bool) (h : Hidden) (stay : h.waits ≡ false) (s t : SimState) (told : AreSameLater root f less h s t) (C : Type 0) (so : (R : SimState → SimState → Type 0) → AreLinked root f ids AnyKnown R → AreOmitted less h root.state.policy R s t → C) where
+  -- at the same time
+  at_once : s.state.world.clock ≡ t.state.world.clock → C
+  at_once same =
+      let now = told.on 0 (no_later s.state.world.clock t.state.world.clock same) in
+      so AreSame (parts_linked root f ids pushes) (record {
+        one = placed less h stay 0 s t now;
+        near = subst (λ (x : SimState). AreSame x (placed less h stay 0 s t now)) (delay_none s) (placed_near less h stay 0 s t now);
+        there = placed_there less h stay 0 s t now;
+        policy = told.there.policy;
+      })
+
+  module _ (time : TellsNoTime root.state.policy) (no_clock : f.clock ≡ false) (free : has_quota root.state.world.tree.groups ≡ false) where
+    -- where the second one is earlier
+    earlier_there : (d : ℕ) → AreSame (hide_machine h (delay_machine d (resting less t))) (hide_machine h (resting less s)) → C
+    earlier_there d now =
+        so (λ x y. AreTimed root.state.policy y x) (timed_back root f ids pushes no_clock root.state.policy time.clockless time.exact free rules) (record {
+          one = filled less h stay d t s now;
+          near = timed_so root rules free t s (filled less h stay d t s now) told.there d (merge less h stay d t s now).tasks (filled_is less h stay d t s now) (filled_near less h stay d t s now);
+          there = filled_here less h stay d t s now;
+          policy = told.there.policy;
+        })
+
+    -- and where it is later
+    later_there : (d : ℕ) → AreSame (hide_machine h (delay_machine d (resting less s))) (hide_machine h (resting less t)) → C
+    later_there d now =
+        so (AreTimed root.state.policy) (timed_linked root f ids pushes no_clock root.state.policy time.clockless time.exact free rules) (record {
+          one = placed less h stay d s t now;
+          near = timed_so root rules free s (placed less h stay d s t now) s told.here d s.state.world.tasks refl (placed_near less h stay d s t now);
+          there = placed_there less h stay d s t now;
+          policy = told.there.policy;
+        })
+
+    at_two_times : C
+    at_two_times =
+        let v = s.state.world.clock in
+        let w = t.state.world.clock in
+        ⊎_elim (λ (l : w < v). earlier_there (v - w) (told.back (v - w) (later_than w v (earlier v w l))))
+        (λ (l : v ≤ w). later_there (w - v) (told.on (w - v) (later_than v w l)))
+        (cases_lt w v)
+
+  -- such two are a pair with another machine between them, whether or not the clock is told
+  pub paired : (f.clock ≡ true) ⊎ TellsNoTime root.state.policy → C
+  paired clock = go f.clock (has_quota root.state.world.tree.groups) refl refl clock
+    where
+      go : (b c : Bool) → f.clock ≡ b → has_quota root.state.world.tree.groups ≡ c → (f.clock ≡ true) ⊎ TellsNoTime root.state.policy → C
+      go true c e q o = at_once (told.clock e)
+      go false true e q o = at_once (told.quota q)
+      go false false e q (inl is) = at_once (told.clock is)
+      go false false e q (inr time) = at_two_times time e q
+
+-- slices of tasks that sleep or are held are left out, or not
+pub by_slices : (f : Form) (X C : Type 0) → (f.idle_slices ≡ true) ⊎ X → ((less : Bool) → (less ≡ false → f.idle_slices ≡ true) → (less ≡ true → X) → (less ≡ true → f.idle_slices ≡ false) → C) → C
+by_slices f X C told so = go f.idle_slices refl told
+  where
+    go : (b : Bool) → f.idle_slices ≡ b → (f.idle_slices ≡ true) ⊎ X → C
+    go true e o = so false (λ is. e) (λ is. absurd (bits_apart false refl is)) (λ is. absurd (bits_apart false refl is))
+    go false e (inl is) = absurd (bits_apart f.idle_slices e is)
+    go false e (inr tells) = so true (λ is. absurd (bits_apart true is refl)) (λ is. tells) (λ is. e)
+
+-- what is kept of both is the same the other way round
+keep_back : (f : Form) (ids : List ℕ) (s t : SimState) → length s.state.world.tasks ≡ length t.state.world.tasks → KeepTheSame f ids s t → KeepTheSame f ids t s
+keep_back f ids s t many told = record {
+  tasks = λ k few l.
+      let h = told.tasks k few (subst (λ (n : ℕ). k < n) (sym many) l) in
+      record {
+        wait = sym h.wait;
+        place = sym h.place;
+        prev_cpu = sym h.prev_cpu;
+        ahead = sym h.ahead;
+        by_vtime = sym h.by_vtime;
+        slice = sym h.slice;
+        key = sym h.key;
+        vtime = sym h.vtime;
+        run_ns = sym h.run_ns;
+      };
+  clock = λ e. sym (told.clock e);
+  random = λ e. sym (told.random e);
+  usages = sym told.usages;
+  rules = sym told.rules;
+  maps = sym told.maps;
+}
+
+-- two machines by a form that keeps all that programs read, and slices
+module _ (Ask : (Query → Type 0) → PolicyState → Type 0) (Tell : PolicyState → Type 0) (f : Form) (ids : List ℕ) (root : SimState) (shapes : List Shape) (whole : IsWholeBy Ask Tell root.state.policy f) (plain : IsPlain root) (s t : SimState) (led_s : IsLed shapes root s) (led_t : IsLed shapes root t) (force_s : s.state.world.ejected ≡ None) (force_t : t.state.world.ejected ≡ None) (slices : f.slices ≡ true) where
   suited_s : IsSuited shapes root s
-  suited_s = led_suited shapes root s reached.force led_s
+  suited_s = led_suited shapes root s force_s led_s
 
   suited_t : IsSuited shapes root t
-  suited_t = led_suited shapes root t near.force led_t
+  suited_t = led_suited shapes root t force_t led_t
 
-  s_over : s.events ≤ max_events
-  s_over =
+  -- which keep the same
+  pub kept_told : AreKnown ids (entries_of s.state.world) → AreKnown ids (entries_of t.state.world) → KeepTheSame f ids s t → (less : Bool) → (less ≡ false → f.idle_slices ≡ true) → AreSameLater root f less whole.hidden s t
+  kept_told known known_there told less keeps =
+      let back = keep_back f ids s t (sym suited_s.size.0 ∙ suited_t.size.0) told in
+      record {
+        here = from_led shapes root s led_s;
+        there = from_led shapes root t led_t;
+        clock = clock_kept Ask Tell shapes root plain f ids whole s t suited_s suited_t known known_there told;
+        quota = λ q. clock_told Ask Tell shapes root plain f ids whole s t suited_s suited_t known known_there told (sym (ap has_quota led_s.tidy.1.0.0) ∙ q);
+        on = λ d later. whole_told Ask Tell shapes root plain f ids whole s t suited_s suited_t known known_there told less keeps slices d later;
+        back = λ d later. whole_told Ask Tell shapes root plain f ids whole t s suited_t suited_s known_there known back less keeps slices d later;
+      }
+
+  -- and which are written as the same words
+  pub written_told : (xs : List ℕ) → length ids ≤ most_queues → IsWritten f ids xs s → IsWritten f ids xs t → (less : Bool) → (less ≡ false → f.idle_slices ≡ true) → AreSameLater root f less whole.hidden s t
+  written_told xs few here there = kept_told here.known there.known (words_keep shapes root f ids xs whole.names few s t suited_s suited_t here there)
+
+-- ---- a move of two machines that lists lead to
+
+module _ (moves : Moves) (root : SimState) (room : ℕ) (shapes : List Shape) (led : IsLed shapes root root) (fits : HasRoom moves root room) (s t : SimState) (es : List Event) (reached : IsReached moves root s) (near : IsNear root room t) (move : IsMove moves root es) where
+  pub led_reached : IsLed shapes root s
+  led_reached = subst (IsLed shapes root) (sym reached.state) (led_all shapes root root (list_of reached.list) reached.accepted (moves_none moves root reached.list reached.made) led)
+
+  pub led_near : IsLed shapes root t
+  led_near = subst (IsLed shapes root) (sym near.state) (led_all shapes root root near.events near.accepted (tried_all root near.events near.tried) led)
+
+  pub over_reached : s.events ≤ max_events
+  over_reached =
       let over : root.events ≤ max_events = omega (arith, fits es move) in
       subst (λ (x : SimState). x.events ≤ max_events) (sym reached.state) (stays_over root (list_of reached.list) over reached.accepted)
 
-  t_fits : t.events + length es ≤ max_events
-  t_fits =
+  pub fits_near : t.events + length es ≤ max_events
+  fits_near =
       let count : t.events ≡ root.events + length near.events = ap (λ (x : SimState). x.events) near.state ∙ counts root near.events near.accepted in
       near_fits t.events root.events (length near.events) room (length es) max_events count near.few (fits es move)
 
+-- where waits are kept, it is matched by the same one
+module _ (Ask : (Query → Type 0) → PolicyState → Type 0) (Tell : PolicyState → Type 0) (f : Form) (ids : List ℕ) (moves : Moves) (sorts : List Sort) (root : SimState) (room : ℕ) (shapes : List Shape) (whole : IsWholeBy Ask Tell root.state.policy f) (stay : whole.hidden.waits ≡ false) (slices : f.slices ≡ true) (plain : IsPlain root) (led : IsLed shapes root root) (few : length ids ≤ most_queues) (fits : HasRoom moves root room) (xs : List ℕ) (s t : SimState) (es : List Event) (reached : IsReached moves root s) (near : IsNear root room t) (known : (less : Bool) → (less ≡ true → Tell root.state.policy) → Along (Tells less whole.hidden root.state.policy) t es) (here : IsWritten f ids xs s) (there : IsWritten f ids xs t) (move : IsMove moves root es) where
   abbrev h : Hidden
   h = whole.hidden
 
   abbrev p : PolicyState
   p = root.state.policy
 
-  -- with slices of tasks that sleep or are held told, or not
-  module _ (less : Bool) (keeps : less ≡ false → f.idle_slices ≡ true) (tells : less ≡ true → Ask TellsNoSlice p) (leaves : less ≡ true → f.idle_slices ≡ false) where
-    -- of two machines of such a pair each move is matched
-    so : (R : SimState → SimState → Type 0) → AreLinked root f ids AnyKnown R → AreOmitted less h p R s t → IsMatched f ids moves sorts root s t es
-    so R linked pair =
-        matched_so shapes root f ids (Tells less h p) (AreOmitted less h p R) (omitted_linked root f ids less h p whole.waits_stay whole.left_out leaves R linked) moves sorts root s t es
-        (record { pair = pair; here = led_s; there = led_t; none = move_none moves root es move; over = s_over; fits = t_fits; known = known less tells }) move
+  led_s : IsLed shapes root s
+  led_s = led_reached moves root room shapes led fits s t es reached near move
 
-    -- at the same time
-    at_once : s.state.world.clock ≡ t.state.world.clock → IsMatched f ids moves sorts root s t es
-    at_once same =
-        let told = whole_told Ask shapes root plain f ids xs whole few s t suited_s suited_t here there less keeps 0 (no_later s.state.world.clock t.state.world.clock same) in
-        so AreSame (parts_linked root f ids whole.pushes) (record {
-          one = placed less h whole.waits_stay 0 s t told;
-          near = subst (λ (x : SimState). AreSame x (placed less h whole.waits_stay 0 s t told)) (delay_none s) (placed_near less h whole.waits_stay 0 s t told);
-          there = placed_there less h whole.waits_stay 0 s t told;
-          policy = led_t.policy;
-        })
+  led_t : IsLed shapes root t
+  led_t = led_near moves root room shapes led fits s t es reached near move
 
-    module _ (time : TellsNoTime p) (no_clock : f.clock ≡ false) (free : has_quota root.state.world.tree.groups ≡ false) where
-      free_of : (x : SimState) → IsLed shapes root x → has_quota x.state.world.tree.groups ≡ false
-      free_of x l = sym (ap has_quota l.tidy.1.0.0) ∙ free
-
-      -- a machine that is the same as that one, but for records of tasks, and another one that is the same later
-      timed_so : (x y z : SimState) → IsLed shapes root x → (d : ℕ) → (ts : List Task) → z ≡ record x { state = with_world x.state (with_tasks x.state.world ts) } → AreSame (delay_machine d z) y → AreTimed p z y
-      timed_so x y z l d ts is same =
-          let groups : z.state.world.tree.groups ≡ x.state.world.tree.groups = ap (λ (u : SimState). u.state.world.tree.groups) is in
-          let free_z : has_quota z.state.world.tree.groups ≡ false = ap has_quota groups ∙ free_of x l in
-          record {
-            later = d;
-            other = unused z;
-            events = refl;
-            before = unused_there z.state z.state free_z (same_itself z.state (subst (λ (u : SimState). IsStamped u.state.world.queues) (sym is) l.fine.sound.stamped));
-            steady = unused_is_steady z.state;
-            free = free_z;
-            rules = ap (λ (u : SimState). are_linux u.state.world.rules) is ∙ (ap are_linux l.rules ∙ plain.rules);
-            policy = ap (λ (u : SimState). u.state.policy) is ∙ l.policy;
-            after = unused_here (delay_machine d z).state y.state free_z same;
-          }
-
-      at_two_times : IsMatched f ids moves sorts root s t es
-      at_two_times =
-          let v = s.state.world.clock in
-          let w = t.state.world.clock in
-          ⊎_elim (λ (l : w < v). later (v - w) (whole_told Ask shapes root plain f ids xs whole few t s suited_t suited_s there here less keeps (v - w) (later_than w v (earlier v w l))))
-          (λ (l : v ≤ w). sooner (w - v) (whole_told Ask shapes root plain f ids xs whole few s t suited_s suited_t here there less keeps (w - v) (later_than v w l)))
-          (cases_lt w v)
-        where
-          later : (d : ℕ) → AreSame (hide_machine h (delay_machine d (resting less t))) (hide_machine h (resting less s)) → IsMatched f ids moves sorts root s t es
-          later d told =
-              so (λ x y. AreTimed p y x) (timed_back root f ids whole.pushes no_clock p time.clockless time.exact free plain.rules) (record {
-                one = filled less h whole.waits_stay d t s told;
-                near = timed_so t s (filled less h whole.waits_stay d t s told) led_t d (merge less h whole.waits_stay d t s told).tasks (filled_is less h whole.waits_stay d t s told) (filled_near less h whole.waits_stay d t s told);
-                there = filled_here less h whole.waits_stay d t s told;
-                policy = led_t.policy;
-              })
-
-          sooner : (d : ℕ) → AreSame (hide_machine h (delay_machine d (resting less s))) (hide_machine h (resting less t)) → IsMatched f ids moves sorts root s t es
-          sooner d told =
-              so (AreTimed p) (timed_linked root f ids whole.pushes no_clock p time.clockless time.exact free plain.rules) (record {
-                one = placed less h whole.waits_stay d s t told;
-                near = timed_so s (placed less h whole.waits_stay d s t told) s led_s d s.state.world.tasks refl (placed_near less h whole.waits_stay d s t told);
-                there = placed_there less h whole.waits_stay d s t told;
-                policy = led_t.policy;
-              })
-
-    -- whether or not the clock is told
-    matched_by : IsMatched f ids moves sorts root s t es
-    matched_by = go f.clock (has_quota root.state.world.tree.groups) refl refl whole.clock
-      where
-        kept : f.clock ≡ true → IsMatched f ids moves sorts root s t es
-        kept e = at_once (clock_kept Ask shapes root plain f ids xs whole few s t suited_s suited_t here there e)
-
-        go : (b c : Bool) → f.clock ≡ b → has_quota root.state.world.tree.groups ≡ c → (f.clock ≡ true) ⊎ TellsNoTime p → IsMatched f ids moves sorts root s t es
-        go true c e q o = kept e
-        go false true e q o = at_once (clock_told Ask shapes root plain f ids xs whole few s t suited_s suited_t here there (sym (ap has_quota led_s.tidy.1.0.0) ∙ q))
-        go false false e q (inl is) = kept is
-        go false false e q (inr time) = at_two_times time e q
-
-  -- and whether or not slices of tasks that sleep or are held are
-  matched : IsMatched f ids moves sorts root s t es
-  matched = go f.idle_slices refl whole.idle_slices
+  matched_by : (less : Bool) → (less ≡ false → f.idle_slices ≡ true) → (less ≡ true → Tell p) → (less ≡ true → f.idle_slices ≡ false) → IsMatched f ids moves sorts root s t es
+  matched_by less keeps tells leaves =
+      paired root f ids whole.pushes plain.rules less h stay s t (written_told Ask Tell f ids root shapes whole plain s t led_s led_t reached.force near.force slices xs few here there less keeps) (IsMatched f ids moves sorts root s t es) so whole.clock
     where
-      go : (b : Bool) → f.idle_slices ≡ b → (f.idle_slices ≡ true) ⊎ Ask TellsNoSlice p → IsMatched f ids moves sorts root s t es
-      go true e o = matched_by false (λ is. e) (λ is. absurd (bits_apart false refl is)) (λ is. absurd (bits_apart false refl is))
-      go false e (inl is) = absurd (bits_apart f.idle_slices e is)
-      go false e (inr tells) = matched_by true (λ is. absurd (bits_apart true is refl)) (λ is. tells) (λ is. e)
+      so : (R : SimState → SimState → Type 0) → AreLinked root f ids AnyKnown R → AreOmitted less h p R s t → IsMatched f ids moves sorts root s t es
+      so R linked pair =
+          matched_so shapes root f ids (Tells less h p) (AreOmitted less h p R) (omitted_linked f ids less h whole.left_out leaves root p stay R linked) moves sorts root s t es (record {
+            pair = pair;
+            here = led_s;
+            there = led_t;
+            none = move_none moves root es move;
+            over = over_reached moves root room shapes led fits s t es reached near move;
+            fits = fits_near moves root room shapes led fits s t es reached near move;
+            known = known less tells;
+          }) move
 
--- ---- laws
-
-tell_nothing : (less : Bool) (h : Hidden) (p : PolicyState) → AskAnyhow (ReadsNone h) p → (less ≡ true → AskAnyhow TellsNoSlice p) → TellNothing (left_out_if less h) p
-tell_nothing true h p unread told = record { unread = unread; told = inr (told refl) }
-tell_nothing false h p unread told = record { unread = unread; told = inl (λ t. refl) }
-
-pub whole_forms_are_respected : WholeFormsAreRespected
-whole_forms_are_respected f ids moves sorts root room shapes whole plain led few fits xs s t es reached near here there move =
-    matched AskAnyhow f ids moves sorts root room shapes whole plain led few fits xs s t es reached near
-    (λ less tells. along_any less whole.hidden root.state.policy (tell_nothing less whole.hidden root.state.policy whole.unread tells) t es) here there move
-
-pub forms_whole_in_runs_are_respected : FormsWholeInRunsAreRespected
-forms_whole_in_runs_are_respected f ids moves sorts root room shapes whole plain led few fits xs s t es reached near run here there move =
-    matched AskOnly f ids moves sorts root room shapes whole plain led few fits xs s t es reached near
-    (λ less tells. along_runs less whole.hidden root.state.policy whole.unread tells t es (run es move)) here there move
-
--- a closed table of a whole form leaves no list out
-pub told_whole : {E : Type 0} (c : Claim) (root : SimState) (room : ℕ) (r : Result Bool E) → IfOk r (λ b. b ≡ true → IsClosed c root room) → IfOk r (λ b. b ≡ true → AreNumbersOf root c.ids) → IfOk r (λ b. b ≡ true → NeedsNoPremise c.form c.moves c.limit c.sorts root room)
-told_whole c root room (Ok b) shut numbers = λ is p tree cpus first valid whole plain fits.
-    closed_tables_cover c root room (forms_whole_in_runs_are_respected c.form c.ids c.moves c.sorts root room p.shapes whole plain (first_led p tree cpus root first valid) (numbers is).few fits) (shut is)
-told_whole c root room (Err e) shut numbers = tt
+  pub matched : IsMatched f ids moves sorts root s t es
+  matched = by_slices f (Tell p) (IsMatched f ids moves sorts root s t es) whole.idle_slices matched_by

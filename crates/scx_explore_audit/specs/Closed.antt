@@ -1,5 +1,5 @@
 -- Closed tables of states, and the premise about their words.
-use Rattle.std.specs.Prelude.{◌≡◌, ℕ, ◌+◌, ◌<◌, ◌≤◌, ⊤, true, List, [], ◌∷◌, length, slice_index, All, Option, None, Some, IfSome}
+use Rattle.std.specs.Prelude.{◌≡◌, ℕ, ◌+◌, ◌<◌, ◌≤◌, ⊤, true, false, List, [], ◌∷◌, length, slice_index, All, Option, None, Some, IfSome, ◌⊎◌}
 use Rattle.scx_dsq.specs.Queues.{exists}
 use Rattle.scx_sched_machine.specs.declared.events.Event.{Event}
 use Rattle.scx_sched.specs.Sim.{SimState, refusal, after_event, calls_of}
@@ -8,11 +8,14 @@ use Rattle.scx_explore_findings.specs.Asked.{RunAsVerified}
 use Rattle.scx_explore_findings.specs.declared.finding.Sort.{Sort}
 use Rattle.scx_explore_states.specs.declared.form.Form.{Form}
 use Rattle.scx_explore_machines.specs.Seen.{Kept, state_at}
+use Rattle.scx_explore_states.specs.Ticks.{times}
 use Rattle.scx_explore_states.specs.Words.{most_queues}
 use Rattle.scx_explore_states.specs.Written.{IsWritten}
 use Rattle.scx_explore_audit.specs.declared.table.Moves.{Moves}
+use Rattle.scx_explore_audit.specs.declared.table.Moves.TheVariants.{Events}
 use Rattle.scx_explore_audit.specs.declared.table.Charted.{Charted}
 use Rattle.scx_explore_audit.specs.Claims.{IsTried, IsMove, AreFree, ShowsNoneAtFirst, list_of}
+use Rattle.scx_explore_audit.specs.Tried.{IsTriedIn}
 
 -- queues of the machine in that state, in any order
 abbrev pub AreQueuesOf : SimState → List ℕ → Type 0
@@ -85,15 +88,15 @@ IsSurvived s (e ∷ es) =
 
 -- ---- what is presumed
 
--- What the events do in the first state a move does in the second one, as far as anything is said
--- of it: they show nothing where it doesn't, and words of the state after it are words of the
--- one after them. The second list may go on where the first one ends: where a task waited too
--- long.
-pub record IsMatched
-    (f : Form) (ids : List ℕ) (moves : Moves) (sorts : List Sort) (root s t : SimState)
+-- What the events do in the first state some of those lists does in the second one, as far as
+-- anything is said of it: they show nothing where it doesn't, and words of the state after it are
+-- words of the one after them. The second list may go on where the first one ends: where a task
+-- waited too long.
+pub record IsMatchedBy
+    (Is : List Event → Type 0) (f : Form) (ids : List ℕ) (sorts : List Sort) (s t : SimState)
     (es : List Event) : Type 0 where
   pub other : List Event
-  pub move : IsMove moves root other
+  pub move : Is other
   pub free : ShowsNoneAtFirst sorts t other → ShowsNoneAtFirst sorts s es
   pub there : IsSurvived s es → IsSurvived t other
   pub written :
@@ -101,6 +104,11 @@ pub record IsMatched
       → IsSurvived s es
       → IsWritten f ids xs (stepped_all t other)
       → IsWritten f ids xs (stepped_all s es)
+
+-- what the events do in the first state a move does in the second one
+abbrev pub IsMatched :
+    Form → List ℕ → Moves → List Sort → SimState → SimState → SimState → List Event → Type 0
+IsMatched f ids moves sorts root s t es = IsMatchedBy (IsMove moves root) f ids sorts s t es
 
 -- what a form leaves out of a state changes nothing that is looked for: of two states that are
 -- written as the same words, the first one after a list of moves and the second one after few
@@ -136,6 +144,48 @@ RespectsRuns f ids moves sorts root room =
     → IsMove moves root es
     → IsMatched f ids moves sorts root s t es
 
+-- ---- rows
+
+-- there is room for each row that is tried in a state to which n events lead
+abbrev pub HasRoomForRows : Form → Moves → SimState → ℕ → ℕ → SimState → Type 0
+HasRoomForRows f moves root room n s =
+    f.slices ≡ false → moves ≡ Events
+    → (e : Event) → IsTried root e → n + times s e ≤ room
+
+-- What is audited of a state near the first one: as far as the moves that are tried there are
+-- accepted and the policy stays in force, they show nothing, and callbacks run as they were
+-- verified. Where waits are left out no task can have waited too long.
+pub record IsAudited
+    (f : Form) (moves : Moves) (sorts : List Sort) (root : SimState) (room : ℕ) (s : SimState)
+    (near : IsNear root room s) : Type 0
+  where
+    pub shown : (es : List Event)
+        → IsTriedIn f.slices moves root s es → ShowsNoneAtFirst sorts s es
+    pub run : (es : List Event) → IsTriedIn f.slices moves root s es → CallsRunAlong s es
+    pub fits : HasRoomForRows f moves root room (length near.events) s
+    pub early : f.waits ≡ false → s.state.world.clock < s.state.policy.timeout_ms
+
+-- what the events do in the first state, a move that is tried in the second one does there, or no
+-- event does
+abbrev pub IsFollowed :
+    Form → List ℕ → Moves → List Sort → SimState → SimState → SimState → List Event → Type 0
+IsFollowed f ids moves sorts root s t es =
+    IsMatchedBy (λ fs. (fs ≡ []) ⊎ IsTriedIn f.slices moves root t fs) f ids sorts s t es
+
+-- of two states that are written as the same words, the first one after a list of moves and the
+-- second one after few events, each move of the first is followed so, if what is tried in the
+-- second one was audited
+abbrev pub FollowsRuns : Form → List ℕ → Moves → List Sort → SimState → ℕ → Type 0
+FollowsRuns f ids moves sorts root room =
+    (xs : List ℕ) (s t : SimState) (es : List Event)
+    → IsReached moves root s
+    → (near : IsNear root room t)
+    → IsAudited f moves sorts root room t near
+    → IsWritten f ids xs s
+    → IsWritten f ids xs t
+    → IsMove moves root es
+    → IsFollowed f ids moves sorts root s t es
+
 -- ---- what is audited
 
 -- words of the state are kept, and no more moves lead to them than that, where their
@@ -157,20 +207,25 @@ LeadsBack c n s (e ∷ es) =
     × ((after_event s e).state.world.ejected ≡ None → LeadsBack c n (after_event s e) es)
     × RunAsVerified (calls_of s e)
 
--- a state that is written as the words of that number is near, and each move leads back from it
+-- a state that is written as the words of that number is near, and each move that is tried there
+-- leads back from it
 pub record IsDone (c : Claim) (root : SimState) (room k : ℕ) : Type 0 where
   pub state : SimState
   pub near : IsNear root room state
   pub written : IsWritten c.form c.ids (state_at c.kept k) state
+  pub fits : HasRoomForRows c.form c.moves root room (length near.events) state
+  pub early : c.form.waits ≡ false → state.state.world.clock < state.state.policy.timeout_ms
   pub moves :
-      (es : List Event) → IsMove c.moves root es → LeadsBack c (depth_at c k + 1) state es
+      (es : List Event)
+      → IsTriedIn c.form.slices c.moves root state es
+      → LeadsBack c (depth_at c k + 1) state es
 
 -- the same of that number, where a list that leads there may have one more move
 abbrev pub IsSettled : Claim → SimState → ℕ → ℕ → Type 0
 IsSettled c root room k = IsWithin c.limit (depth_at c k) → IsDone c root room k
 
--- the first state is kept, if lists have moves at all, and from no state that is kept a move leads
--- out of the table
+-- the first state is kept, if lists have moves at all, and from no state that is kept a move that
+-- is tried there leads out of the table
 pub record IsClosed (c : Claim) (root : SimState) (room : ℕ) : Type 0 where
   pub force : root.state.world.ejected ≡ None
   pub first : IsWithin c.limit 0 → IsMet c 0 root

@@ -1,12 +1,13 @@
 -- Laws: no list shows what no state of a closed table shows.
-use Rattle.std.specs.Prelude.{◌≡◌, ℕ, ◌≤◌, List, length, All, Option, None, IfSome}
+use Rattle.std.specs.Prelude.{◌≡◌, ℕ, ◌≤◌, true, List, length, All, Option, None, IfSome}
 use Rattle.scx_sched_machine.specs.declared.events.Event.{Event}
 use Rattle.scx_sched.specs.Sim.{SimState}
 use Rattle.scx_explore_findings.specs.declared.finding.Sort.{Sort}
+use Rattle.scx_explore_states.specs.declared.form.Form.{Form}
 use Rattle.scx_explore_audit.specs.declared.table.Moves.{Moves}
 use Rattle.scx_explore_audit.specs.declared.table.Moves.TheVariants.{Events}
 use Rattle.scx_explore_audit.specs.Claims.{IsMove, IsTried, ShowsNone, ShowsNoneAtFirst, accepted_of, list_of}
-use Rattle.scx_explore_audit.specs.Closed.{Claim, IsClosed, RespectsRuns}
+use Rattle.scx_explore_audit.specs.Closed.{Claim, IsClosed, FollowsRuns, RespectsRuns}
 
 -- no list of such moves, of any number or of at most `limit`, shows anything of these sorts,
 -- whichever of its events are refused
@@ -21,9 +22,17 @@ NoneIn moves limit sorts root =
 abbrev pub ClosedTablesCover : Type 0
 ClosedTablesCover =
     (c : Claim) (root : SimState) (room : ℕ)
-    → RespectsRuns c.form c.ids c.moves c.sorts root room
+    → FollowsRuns c.form c.ids c.moves c.sorts root room
     → IsClosed c root room
     → NoneIn c.moves c.limit c.sorts root
+
+-- moves that are matched are followed, where states keep slices
+abbrev pub MatchedMovesAreFollowed : Type 0
+MatchedMovesAreFollowed =
+    (f : Form) (ids : List ℕ) (moves : Moves) (sorts : List Sort) (root : SimState) (room : ℕ)
+    → f.slices ≡ true
+    → RespectsRuns f ids moves sorts root room
+    → FollowsRuns f ids moves sorts root room
 
 -- A list shows nothing if the list of its events that are accepted doesn't, and the other way
 -- round. And then it shows nothing as far as its events are accepted.

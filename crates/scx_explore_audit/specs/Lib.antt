@@ -1,4 +1,5 @@
 pub mod Claims
+pub mod Tried
 pub mod Closed
 pub mod Laws
 pub mod Rows

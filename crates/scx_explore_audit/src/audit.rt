@@ -1,7 +1,7 @@
 ghost use Rattle.std.specs.Prelude.{ℕ, ◌≡◌, ◌<◌, true, length, All, IfOk, None};
 ghost use Rattle.scx_explore_findings.specs.Path.{machine_of};
 ghost use Rattle.scx_explore_audit.specs.Claims.{IsTried};
-ghost use Rattle.scx_explore_audit.specs.Closed.{AreNumbersOf, IsClosed, IsMet, IsSettled, IsWithin, RespectsRuns, claim_of};
+ghost use Rattle.scx_explore_audit.specs.Closed.{AreNumbersOf, IsClosed, IsMet, IsSettled, IsWithin, FollowsRuns, claim_of};
 ghost use Rattle.scx_explore_audit.specs.Laws.{NoneIn};
 ghost use Rattle.scx_explore_audit.specs.Marks.{ArePast};
 ghost use Rattle.scx_explore_audit.specs.Whole.{NeedsNoPremise};
@@ -33,7 +33,7 @@ pub fn none_in_lists(
     ensures numbers { IfOk result (λ closed. closed ≡ true
         → AreNumbersOf path.old.root table.entry.numbers.now) }
     ensures none { IfOk result (λ closed. closed ≡ true
-        → RespectsRuns table.entry.form table.entry.numbers.now table.entry.moves
+        → FollowsRuns table.entry.form table.entry.numbers.now table.entry.moves
         table.entry.sorts.now path.old.root path.old.room
         → NoneIn table.entry.moves table.entry.limit table.entry.sorts.now path.old.root) }
     // Of a form that keeps everything that is proved, by plain rules.

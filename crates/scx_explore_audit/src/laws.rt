@@ -1,8 +1,9 @@
 ghost use Rattle.scx_explore_audit.specs.Computed.{ComputedFormsAreWhole, ComputedFormsAreWholeInRuns};
-ghost use Rattle.scx_explore_audit.specs.Laws.{ClosedTablesCover, ListsAreOfEvents, RefusedEventsShowNothing};
+ghost use Rattle.scx_explore_audit.specs.Laws.{ClosedTablesCover, ListsAreOfEvents, MatchedMovesAreFollowed, RefusedEventsShowNothing};
 ghost use Rattle.scx_explore_audit.specs.Rows.{UnreadPartsAreRespected};
-ghost use Rattle.scx_explore_audit.specs.Whole.{FormsWholeInRunsAreRespected, WholeFormsAreRespected};
+ghost use Rattle.scx_explore_audit.specs.Whole.{FormsWholeInRunsAreFollowed, FormsWholeInRunsAreRespected, WholeFormsAreRespected};
 ghost use Rattle.scx_explore_findings.specs.Asked.{AnsweredCallsGive, AnsweredCallsLoadNone};
+ghost use Rattle.scx_explore_findings.specs.Counted.{CountsChangeNothing, SuchProgramsLoadNoCount, TicksOnlyCount};
 ghost use Rattle.scx_explore_findings.specs.Between.{EventsKeepQueuesSound, EventsLeaveNoNotes};
 ghost use Rattle.scx_explore_findings.specs.Delayed.{EventsDontTellTimes};
 ghost use Rattle.scx_explore_findings.specs.FifoOnly.{FirstStatesAreInOrder, NobodyWaitsByVtime};
@@ -112,9 +113,11 @@ pub fn events_leave_no_notes()
 {}
 
 /// Where a table of states is closed, and what its words leave out changes nothing, no list of moves shows what none of
-/// its states shows. The function does nothing: its contract is the law.
+/// its states shows. Where states keep slices, it is enough that each move of one is matched by a move of the other. The
+/// function does nothing: its contract is the law.
 pub fn closed_tables_cover()
-    ensures { ClosedTablesCover }
+    ensures cover { ClosedTablesCover }
+    ensures matched { MatchedMovesAreFollowed }
 {}
 
 /// A list of events, some of which are refused, shows what the list of the others shows. The function does nothing: its
@@ -140,18 +143,34 @@ pub fn unread_parts_are_respected()
 /// rules, with no timers, at most eight tasks and sixteen CPUs. Such a form may leave out the number of pushes; the clock
 /// if no program reads it and slices end exactly; slices of tasks that sleep or are held if no program loads a slice and
 /// no insert gives one of 0; and keys, random numbers, run times and virtual times that no program inserts by, draws or
-/// loads. It is enough if none does so in a run that fits, where callbacks run as they were verified. The function does
-/// nothing: its contract is the law.
+/// loads. Waits may be left out of lists of events that aren't asked about stalls, if states are audited after fewer events
+/// than a task may wait milliseconds. It is enough if no program does so in a run that fits, where callbacks run as they were
+/// verified. And where lists are of events, and no group has a quota, slices that end may be left out, if no program loads a
+/// slice or a run time: then ticks of a CPU until the slice of its task ends are tried in a row. The function does nothing: its
+/// contract is the law.
 pub fn whole_forms_are_respected()
     ensures anyhow { WholeFormsAreRespected }
     ensures runs { FormsWholeInRunsAreRespected }
+    ensures rows { FormsWholeInRunsAreFollowed }
 {}
 
-/// The form that a search computes for milliseconds keeps what programs can tell by their calls. It keeps all that they can
-/// read if slices end exactly, and no program asks for what it leaves out of the records of tasks, or tells a slice where it
-/// leaves slices out. Of a policy that is built of a file nothing of that is presumed: the form keeps all that its programs
-/// can read in each run that fits, as long as no program loads a slice where it leaves slices out. The function does nothing:
-/// its contract is the law.
+/// Under plain rules and a policy of which no program loads a slice or a run time, two machines that are the same but for slices
+/// that end and for run times answer each event alike, as long as the policy is in force: it is refused for the same cause, ejects
+/// the policy for the same cause, or leads to two such machines. A tick of a CPU whose task has a slice that ends does if it
+/// ends the slice in both. And a tick after which a task goes on changes nothing but its slice, its run time and what its groups
+/// have used. A program loads neither, whatever it is given and answered, that has no load of 8 bytes at the offset of a slice
+/// or a run time. The function does nothing: its contract is the law.
+pub fn counts_change_nothing()
+    ensures events { CountsChangeNothing }
+    ensures ticks { TicksOnlyCount }
+    ensures programs { SuchProgramsLoadNoCount }
+{}
+
+/// The form that a search computes keeps what programs can tell by their calls, where it tells tasks apart. It keeps all that
+/// they can read if slices end exactly, and no program asks for what it leaves out of the records of tasks, or tells a slice
+/// where it leaves slices out. Of a policy that is built of a file nothing of that is presumed: the form keeps all that its
+/// programs can read in each run that fits, as long as no program loads a slice where it leaves slices out. The function does
+/// nothing: its contract is the law.
 pub fn computed_forms_are_whole()
     ensures anyhow { ComputedFormsAreWhole }
     ensures runs { ComputedFormsAreWholeInRuns }

@@ -19,6 +19,7 @@ mod laws;
 mod milliseconds;
 mod moves;
 mod queues;
+mod room;
 mod sorts;
 mod states;
 mod table;
@@ -26,9 +27,9 @@ mod walking;
 
 pub use audit::none_in_lists;
 pub use laws::{
-    asking_decides, closed_tables_cover, computed_forms_are_whole, events_dont_depend,
-    events_leave_no_notes, lists_are_of_events, lists_dont_depend, nobody_is_late,
-    nobody_waits_by_vtime, reached_states_go_alike, refused_events_show_nothing,
+    asking_decides, closed_tables_cover, computed_forms_are_whole, counts_change_nothing,
+    events_dont_depend, events_leave_no_notes, lists_are_of_events, lists_dont_depend,
+    nobody_is_late, nobody_waits_by_vtime, reached_states_go_alike, refused_events_show_nothing,
     same_machines_show_the_same, unread_parts_are_respected, unread_parts_change_nothing,
     whole_forms_are_respected, whole_forms_are_so_in_runs, words_dont_depend,
 };

@@ -1,8 +1,8 @@
 ghost use Rattle.std.specs.Prelude.{◌≡◌, true, List, [], ◌∷◌};
 ghost use Rattle.scx_sched_machine.specs.declared.events.Event.{Event};
 ghost use Rattle.scx_explore_findings.specs.Path.{machine_of};
-ghost use Rattle.scx_explore_audit.specs.Claims.{IsMove};
 ghost use Rattle.scx_explore_audit.specs.Closed.{LeadsBack, claim_of};
+ghost use Rattle.scx_explore_audit.specs.Tried.{IsTriedIn};
 
 use crate::advance::{Went, go_along};
 use crate::events::events_lead_back;
@@ -12,7 +12,7 @@ use crate::table::{Charted, Hand, Moves};
 use scx_explore_findings::Path;
 use scx_sched::Event;
 
-/// True if each move leads back into the table, to a state to which `depth` moves lead, or ends the list, and shows
+/// True if each move that is tried leads back into the table, to a state to which `depth` moves lead, or ends the list, and shows
 /// nothing.
 pub(crate) fn moves_lead_back(
     charted: Charted<'_>,
@@ -23,7 +23,8 @@ pub(crate) fn moves_lead_back(
 ) -> bool
     ensures same { path.new ≡ path.old }
     ensures back { result ≡ true → (es : List Event)
-        → IsMove charted.entry.table.moves path.old.root es
+        → IsTriedIn charted.entry.table.form.slices charted.entry.table.moves path.old.root
+        (machine_of path.old) es
         → LeadsBack (claim_of charted.entry) depth (machine_of path.old) es }
 {
     match charted.table.moves {

@@ -7,6 +7,7 @@ ghost use Rattle.scx_explore_audit.specs.Closed.{IsDone, IsMet, IsSettled, IsWit
 
 use crate::depths::{depth_of, is_no_deeper, is_past, is_within};
 use crate::moves::moves_lead_back;
+use crate::room::{is_early, rows_fit};
 use crate::table::{Charted, Hand, Table};
 use crate::walking::{has_room, is_in_force};
 use scx_explore_findings::Path;
@@ -59,6 +60,12 @@ fn is_done_here(
     let here = path.sim();
     let began = table.form.began_in(here, kept, table.numbers);
     if !is_written(table, here, began, kept, hand) {
+        return false;
+    }
+    if !is_early(table.form, here) {
+        return false;
+    }
+    if !rows_fit(table, path) {
         return false;
     }
     moves_lead_back(charted, next, began, path, hand)

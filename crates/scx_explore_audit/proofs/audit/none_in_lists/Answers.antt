@@ -1,5 +1,5 @@
 use Rattle.scx_explore_audit.proofs.Settled.{told}
-use Rattle.scx_explore_audit.proofs.Wholly.{told_whole}
+use Rattle.scx_explore_audit.proofs.Rowed.{told_whole}
 use Rattle.scx_explore_audit.proofs.audit.none_in_lists.Goals as goal
 
 pub returns-clause-none : goal.returns-clause-none
