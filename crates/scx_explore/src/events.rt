@@ -1,8 +1,8 @@
 use crate::search::Search;
-use scx_explore_bounds::{Memory, twins_of};
+use scx_explore_bounds::{Memory, most_ticks, step_of, times_in, twins_of};
 use scx_explore_findings::Watched;
 use scx_explore_machines::Way;
-use scx_explore_states::{Step, Tasks};
+use scx_explore_states::Tasks;
 use scx_sched::Event;
 
 /// A state from which events are tried.
@@ -65,20 +65,42 @@ impl Search {
         self.hand = self.try_on(hand, begun, event);
     }
 
-    /// Tries an event on that machine, and enters the state that it leads to. Answers the machine, or another one in
-    /// its place.
+    /// Tries an event on that machine, and enters the state that it leads to: a tick until the slice of the CPU's task
+    /// ends, if states keep no slices. Answers the machine, or another one in its place.
     fn try_on(&mut self, machine: usize, begun: &Begun, event: Event) -> usize {
+        let times = self.times_of(machine, event);
         let way = Way {
             from: begun.state,
-            step: Step::Event(event),
+            step: step_of(event, times),
         };
         self.look.watch.go_on(begun.watched);
-        if !self.try_event(machine, event, way, 1) {
+        if !self.try_in_a_row(machine, event, way, times) {
             return machine;
         }
         let mut memory = begun.memory;
         self.note_event(&mut memory, event);
         self.enter_behind(machine, &mut memory, way)
+    }
+
+    /// The number of times that the event comes in a row. If that is too many, there are none, and the search can't go on.
+    fn times_of(&mut self, machine: usize, event: Event) -> usize {
+        let times = times_in(self.form, self.machines.sim(machine), event);
+        if times > most_ticks(self.form) as u64 {
+            self.full = true;
+            return 0;
+        }
+        self.row = self.row.max(times as usize);
+        times as usize
+    }
+
+    /// Tries an event that many times in a row. Answers whether the list goes on; it doesn't without one.
+    fn try_in_a_row(&mut self, machine: usize, event: Event, way: Way, times: usize) -> bool {
+        for before in 0..times {
+            if !self.try_event(machine, event, way, before.saturating_add(1)) {
+                return false;
+            }
+        }
+        times > 0
     }
 
     /// Enters the state after the events that were watched.

@@ -44,6 +44,8 @@ pub struct Search {
     /// The first state of the next depth.
     pub(crate) end: usize,
     pub(crate) events: u64,
+    /// The most times that an event came in a row.
+    pub(crate) row: usize,
     pub(crate) revisits: Revisits,
     /// True if it can't go on.
     pub(crate) full: bool,
@@ -131,6 +133,7 @@ fn begun(form: Form, bounds: Bounds, tables: Tables, machines: Machines) -> Sear
         next: 0,
         end: 0,
         events: 0,
+        row: 1,
         revisits,
         full: hand == other_hand,
     };
@@ -248,6 +251,11 @@ impl Search {
     /// The finding of that number, from 0; none if there are no more.
     pub fn found(&self, place: usize) -> Option<Found> {
         self.finds.found(place)
+    }
+
+    /// The most times that an event came in a row.
+    pub fn longest_row(&self) -> usize {
+        self.row
     }
 
     /// True if something of that sort was found.

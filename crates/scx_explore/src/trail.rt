@@ -103,6 +103,7 @@ impl Search {
         memory.began = self.look.watch.watched().began;
         match step {
             Step::Event(event) => self.note_event(&mut memory, event),
+            Step::Ticks { .. } => {}
             Step::Millisecond { wakes, sleeps } => {
                 memory.use_up(wakes);
                 memory.use_up(sleeps);

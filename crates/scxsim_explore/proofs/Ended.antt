@@ -137,9 +137,9 @@ concluded_some (Err e) done moves n m is =
 
 -- sorts stay
 pub concluded_apart : {E : Type 0} (r : Result Bool E) (done : ℕ) (moves : Moves) (starts : Starts) (first : SimState) (found : List ToldList) (n m : Nones) → m ≡ concluded r done moves n → AreApart starts first found n → AreApart starts first found m
-concluded_apart (Ok true) done moves starts first found n m is h = subst (AreApart starts first found) (sym is) (record { sorts = h.sorts; overtaken = h.overtaken; faults = h.faults })
-concluded_apart (Ok false) done moves starts first found n m is h = subst (AreApart starts first found) (sym is) (record { sorts = h.sorts; overtaken = h.overtaken; faults = h.faults })
-concluded_apart (Err e) done moves starts first found n m is h = subst (AreApart starts first found) (sym is) (record { sorts = h.sorts; overtaken = h.overtaken; faults = h.faults })
+concluded_apart (Ok true) done moves starts first found n m is h = subst (AreApart starts first found) (sym is) (record { sorts = h.sorts; overtaken = h.overtaken; stalls = h.stalls; faults = h.faults })
+concluded_apart (Ok false) done moves starts first found n m is h = subst (AreApart starts first found) (sym is) (record { sorts = h.sorts; overtaken = h.overtaken; stalls = h.stalls; faults = h.faults })
+concluded_apart (Err e) done moves starts first found n m is h = subst (AreApart starts first found) (sym is) (record { sorts = h.sorts; overtaken = h.overtaken; stalls = h.stalls; faults = h.faults })
 
 -- and what is said of the audit is so
 pub concluded_again : {E : Type 0} (r : Result Bool E) (done : ℕ) (moves : Moves) (form : Form) (w : WorkloadState) (s : SimState) (n m : Nones) → m ≡ concluded r done moves n
@@ -156,7 +156,7 @@ not_looked form w s n m reach is = subst (λ (x : Nones). IfSome x.again (IsGone
 
 -- and sorts stay
 pub unlooked_apart : (starts : Starts) (first : SimState) (found : List ToldList) (n m : Nones) (reach : Option ℕ) → m ≡ record n { again = None; reach = reach } → AreApart starts first found n → AreApart starts first found m
-unlooked_apart starts first found n m reach is h = subst (AreApart starts first found) (sym is) (record { sorts = h.sorts; overtaken = h.overtaken; faults = h.faults })
+unlooked_apart starts first found n m reach is h = subst (AreApart starts first found) (sym is) (record { sorts = h.sorts; overtaken = h.overtaken; stalls = h.stalls; faults = h.faults })
 
 -- nor is more said of lists then than the search did
 pub unlooked_some : (done : ℕ) (n m : Nones) → m ≡ record n { again = None; reach = n.reach } → IfSome m.reach (λ depth. (n.reach ≡ Some depth) ⊎ ((n.reach ≡ None) × (depth ≡ done)))

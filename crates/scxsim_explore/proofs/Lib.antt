@@ -3,4 +3,5 @@ mod Ended
 mod Named
 mod Started
 mod KeptWhole
+mod Sure
 mod Told

@@ -7,8 +7,9 @@ use Rattle.std.proofs.KnownBytes.{Appends-nil, Appends-trans}
 use Rattle.std.specs.Prelude.{All, OnOk, IfOk, IfSome, IsErr}
 use Rattle.std.specs.Io.KnownBytes.{Appends}
 use Rattle.scxsim_commands.specs.declared.refusal.Fault.{Fault}
-use Rattle.scx_load_workloads.specs.Workload.{WorkloadState}
+use Rattle.scx_load_workloads.specs.Workload.{WorkloadState, IsWorkload}
 use Rattle.scx_sched_machine.specs.declared.events.Event.{Event}
+use Rattle.scx_sched_policy.specs.Policy.{IsTimeout}
 use Rattle.scx_sched.specs.Sim.{SimState}
 use Rattle.scxsim_trace.specs.Lines.{names_of}
 use Rattle.scx_explore_findings.specs.Path.{IsAs}
@@ -21,10 +22,11 @@ use Rattle.scxsim_explore_lines.specs.Summary.{Nones, summary_text}
 use Rattle.scxsim_explore.specs.declared.limits.Limit.{Limit}
 use Rattle.scxsim_explore.specs.declared.limits.Lists.{Lists}
 use Rattle.scxsim_explore.specs.Words.{IsBoundsOf, IsPast, limit_line}
-use Rattle.scxsim_explore.specs.Telling.{HasFile, IsShown, IsTold, IsAnswer}
+use Rattle.scxsim_explore.specs.Telling.{HasFile, IsShown, IsTold, IsExplored, IsAnswer}
 use Rattle.scxsim_explore.specs.Lists.{Adds, HasLists, HasTold}
 use Rattle.scxsim_explore.specs.Beginning.{IsReady}
 use Rattle.scxsim_explore.proofs.KeptWhole.{keeps_all_read}
+use Rattle.scxsim_explore.proofs.Sure.{needs_nothing}
 
 -- no list
 pub told_nothing : (m : Mode) (w : WorkloadState) (s : SimState) (a : Option (List ℕ)) → HasTold m w s a a
@@ -101,11 +103,25 @@ file_kept {X} bytes m w s events (Err e) file has is none = subst (λ (x : Optio
 
 -- what is told of a search that was ready is an answer
 pub explored : (policy workload : List ℕ) (l : Lists) (b : Bounds) (w : WorkloadState) (s : SimState) (form : Form) (whole : Bool) (old new : Option (List ℕ))
-    → IsBoundsOf l b → IsReady policy workload b w s form → IsTold form w s b whole old new → IsAnswer whole policy workload l old new
-explored policy workload l b w s form true old new named ready told =
-    (b, named, record { of_workload = w; first = s; run = ready.run; within = ready.within; form = form; of_policy = ready.of_policy; keeps = keeps_all_read policy workload b w s form ready.run ready.of_policy; told = told })
-explored policy workload l b w s form false old new named ready told =
-    inr (b, named, record { of_workload = w; first = s; run = ready.run; within = ready.within; form = form; of_policy = ready.of_policy; keeps = keeps_all_read policy workload b w s form ready.run ready.of_policy; told = told })
+    → IsBoundsOf l b → IsReady policy workload b w s form → IsWorkload w → IsTimeout s.state.policy.timeout_ms → IsTold form w s b whole old new → IsAnswer whole policy workload l old new
+explored policy workload l b w s form whole old new named ready sound limit told = answer whole (b, named, found)
+  where
+    found : IsExplored policy workload b whole old new
+    found = record {
+      of_workload = w;
+      first = s;
+      run = ready.run;
+      within = ready.within;
+      form = form;
+      of_policy = ready.of_policy;
+      keeps = keeps_all_read policy workload b w s form ready.run ready.of_policy;
+      told = told;
+      sure = needs_nothing policy workload l b w s form told.nones named ready.run ready.within ready.of_policy sound limit told.bounds told.apart.stalls told.again;
+    }
+
+    answer : (flag : Bool) → (c : Bounds) × IsBoundsOf l c × IsExplored policy workload c flag old new → IsAnswer flag policy workload l old new
+    answer true is = is
+    answer false is = inr is
 
 -- so is the line of a limit that is passed
 pub limited : (policy workload : List ℕ) (l : Lists) (past : Limit) (old new : Option (List ℕ)) (r : Result Bool Fault) → IsPast policy workload l past

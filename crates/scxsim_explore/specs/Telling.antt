@@ -2,7 +2,7 @@
 use Rattle.std.specs.Prelude.{◌≡◌, ◌≢◌, ℕ, ◌+◌, ◌-◌, ◌^◌, ◌≤◌, min, ⊤, ◌⊎◌, length, All, Bool, true, false, ◌||◌, List, [], ◌++◌, Option, Some, None, is_none, IfSome, IsSome}
 use Rattle.std.specs.Io.KnownBytes.{Appends}
 use Rattle.scx_load_workloads.specs.Workload.{WorkloadState}
-use Rattle.scx_sched_world.specs.World.{binds}
+use Rattle.scx_sched_world.specs.World.{are_linux, binds}
 use Rattle.scx_sched_world.specs.declared.faults.Fault.{Fault}
 use Rattle.scx_sched_machine.specs.declared.events.Event.{Event}
 use Rattle.scx_sched.specs.Sim.{SimState}
@@ -10,15 +10,15 @@ use Rattle.scxsim_trace.specs.Lines.{NameLists, names_of}
 use Rattle.scx_explore_findings.specs.declared.finding.Sort.{Sort}
 use Rattle.scx_explore_findings.specs.declared.finding.Sort.TheVariants as sort
 use Rattle.scx_explore_findings.specs.Findings.{Shows, sort_of}
-use Rattle.scx_explore_findings.specs.WholeForms.{IsWholeInRuns}
-use Rattle.scx_explore_bounds.specs.Events.{most_events}
+use Rattle.scx_explore_findings.specs.WholeForms.{IsPlain, IsWholeInRuns}
+use Rattle.scx_explore_bounds.specs.Repeats.{most_in_rows}
 use Rattle.scx_explore_bounds.specs.declared.bounds.Bounds.{Bounds}
 use Rattle.scx_explore_bounds.specs.declared.bounds.Mode.{Mode}
 use Rattle.scx_explore_bounds.specs.declared.bounds.Mode.TheVariants as mode
 use Rattle.scx_explore_states.specs.declared.form.Form.{Form}
 use Rattle.scx_explore_audit.specs.declared.table.Moves.{Moves}
 use Rattle.scx_explore_audit.specs.declared.table.Moves.TheVariants as moves
-use Rattle.scx_explore_audit.specs.Closed.{AreNumbersOf, RespectsRuns}
+use Rattle.scx_explore_audit.specs.Closed.{AreNumbersOf, FollowsRuns}
 use Rattle.scx_explore_audit.specs.Laws.{NoneIn}
 use Rattle.scx_explore_audit.specs.Whole.{NeedsNoPremise}
 use Rattle.scx_load_replay.specs.WorkloadFiles.{IsFileOf}
@@ -68,7 +68,7 @@ HasNoChanges mode.Workloads w = ⊤
 abbrev pub IsSureBy : Form → Moves → Option ℕ → List Sort → SimState → ℕ → Type 0
 IsSureBy form moves limit sorts first room =
     (ids : List ℕ) × AreNumbersOf first ids
-    × (RespectsRuns form ids moves sorts first room → NoneIn moves limit sorts first)
+    × (FollowsRuns form ids moves sorts first room → NoneIn moves limit sorts first)
 
 -- This is sure with a room no greater than the most events of a list within the bounds.
 pub record IsSure
@@ -76,7 +76,8 @@ pub record IsSure
     (first : SimState) : Type 0 where
   pub room : ℕ
   pub few :
-      room ≤ most_events b (length first.state.world.tasks) (length first.state.world.cpus)
+      room
+      ≤ most_in_rows form.slices b (length first.state.world.tasks) (length first.state.world.cpus)
   pub none : IsSureBy form moves limit sorts first room
   -- of a form that keeps everything nothing is presumed, by plain rules
   pub whole : NeedsNoPremise form moves limit sorts first room
@@ -123,13 +124,15 @@ HasNone found x = All (λ t. sort_of t.finding ≢ Some x) found
 abbrev pub tracks_idle : Starts → SimState → Bool
 tracks_idle starts first = is_none starts.update_idle || first.state.policy.keeps_idle
 
--- The summary says of no sort both that it was found and that it wasn't. Where it names faults, it
--- speaks of each fault that the lists are asked about: those that weren't found are all of them.
+-- The summary says of no sort both that it was found and that it wasn't, and of lists of events
+-- nothing of stalls that weren't. Where it names faults, it speaks of each fault that the lists are
+-- asked about: those that weren't found are all of them.
 pub record AreApart
     (starts : Starts) (first : SimState) (found : List ToldList) (n : Nones) : Type 0
   where
     pub sorts : All (HasNone found) n.sorts
     pub overtaken : n.overtaken ≡ true → HasNone found sort.Overtaken
+    pub stalls : n.bounds.mode ≡ mode.Events → All (λ x. x ≢ sort.Stall) n.sorts
     pub faults :
         n.all_faults ≡ true → (f : Fault)
         → is_answered (tracks_idle starts first) (binds first.state.world) found n.sorts f ≡ true
@@ -169,22 +172,34 @@ pub record IsTold
     pub reach : IsReach b w depths nones
     pub again : IfSome nones.again (IsGoneThrough form w first nones)
 
--- In lists of milliseconds the form keeps all that the policy's programs can read in their runs, if
--- slices end exactly, and it keeps slices of tasks that sleep or are held where a program loads
--- one.
+-- The form keeps all that the policy's programs can read in their runs, if slices end exactly and
+-- it tells tasks apart, as it does but in lists of events. By Linux rules that is only said if it
+-- keeps slices of tasks that sleep or are held where a program loads a slice.
 abbrev pub KeepsAllRead :
     (policy : List ℕ) (b : Bounds) (first : SimState) (form : Form)
     → IsFormFrom policy b first form → Type 0
 KeepsAllRead policy b first form f =
-    b.mode ≡ mode.Milliseconds
+    (b.mode ≡ mode.Events → form.names ≡ true)
     → first.state.policy.tick_ms ≡ 0
-    → (f.of_policy.form.uses.slice ≡ true → form.idle_slices ≡ true)
+    → (are_linux first.state.policy.rules ≡ true
+    → f.of_policy.form.uses.slice ≡ true → form.idle_slices ≡ true)
     → IsWholeInRuns first.state.policy form
+
+-- By plain rules, without timers and where slices end exactly, nothing is presumed if the form
+-- tells tasks apart, as it does but in lists of events: if a line says that states were audited, no
+-- list shows anything of its sorts.
+abbrev pub NeedsNothing : Bounds → SimState → Form → Nones → Type 0
+NeedsNothing b first form n =
+    IsPlain first
+    → first.state.policy.tick_ms ≡ 0
+    → (b.mode ≡ mode.Events → form.names ≡ true)
+    → IfSome n.again (λ moves. NoneIn moves n.reach n.sorts first)
 
 -- The output has the summary, lists within the bounds, each with its events and its trace, and a
 -- last line if memory ran out meanwhile. The machine of the texts accepts each list, and the list
 -- ends in what is said of it. States have the form that the policy's programs decide, as it suits
--- the machine, which is past no limit; in milliseconds it leaves out nothing that these can read.
+-- the machine, which is past no limit; it leaves out nothing that these can read where it tells
+-- tasks apart.
 pub record IsExplored
     (policy workload : List ℕ) (b : Bounds) (whole : Bool) (old new : Option (List ℕ)) : Type 0
   where
@@ -196,6 +211,7 @@ pub record IsExplored
     pub of_policy : IsFormFrom policy b first form
     pub keeps : KeepsAllRead policy b first form of_policy
     pub told : IsTold form of_workload first b whole old new
+    pub sure : NeedsNothing b first form told.nones
 
 -- the line of a limit is written that a word or the run of the texts is past
 abbrev pub IsLimited :

@@ -1,15 +1,16 @@
 ghost use Rattle.std.specs.Prelude.{◌≡◌, ◌≢◌, ◌≤◌, ◌⊎◌, true, false, [], List, length, Some, None, Ok, IfSome, IfOk, IsSome, IsOk, IsErr};
 ghost use Rattle.scxsim_explore_lines.specs.Found.{ToldList};
 ghost use Rattle.scxsim_explore_lines.specs.Summary.{nones_of};
-ghost use Rattle.scx_explore_bounds.specs.Events.{most_events};
 ghost use Rattle.scx_explore.specs.Ends.{done_of};
 ghost use Rattle.scx_explore.specs.declared.starts.Starts.{Starts};
+ghost use Rattle.scx_explore_bounds.specs.Repeats.{most_in_rows};
 ghost use Rattle.scxsim_explore.specs.Telling.{AreApart, CantBeLooked, HasNoChanges, IsGoneThrough, IsSure, MayBeLooked, moves_of};
 ghost use Rattle.scxsim_explore.specs.Unfound.{concluded};
 
 use crate::beginning::Begun;
 use scx_explore::{Bounds, Course, End, Form, Mode, Search};
 use scx_explore_audit::{Moves, Table, none_in_lists};
+use scx_explore_bounds::most_in_rows;
 use scx_explore_findings::Path;
 use scx_explore_machines::most_machines;
 use scx_load_workloads::Workload;
@@ -168,7 +169,7 @@ fn is_closed(
         unfound.entry.reach unfound.entry.sorts.now begun.now.machines }
 {
     let first = begun.machines.first();
-    let (count, most) = (machines_of(course, first), most_machines(first));
+    let (count, most) = (machines_of(begun, course), most_machines(first));
     if unfound.sorts.is_empty() || count > most || !is_kept_whole(&begun.search, end) {
         return Ok(false);
     }
@@ -178,14 +179,13 @@ fn is_closed(
     closed
 }
 
-/// The number of machines that it takes: one for each event of the longest list that was searched, or of the longest
-/// one of a state and one move more.
-fn machines_of(course: &Course, sim: &Sim) -> usize {
+/// The number of machines that it takes: one for each event of the longest list of a state and one move more.
+fn machines_of(begun: &Begun, course: &Course) -> usize {
     let searched = Bounds {
         depth: course.done(),
         ..course.bounds
     };
-    Search::most_events(searched, sim)
+    Search::most_events(searched, begun.machines.first()).saturating_mul(begun.search.longest_row())
 }
 
 /// A path from that machine along lists of at most `count` events.
@@ -212,7 +212,7 @@ fn is_closed_along(
     ensures { result ≡ Ok true → IsSure form unfound.entry.bounds moves
         unfound.entry.reach unfound.entry.sorts.now path.old.root }
 {
-    if !is_within(path, unfound.bounds) {
+    if !is_within(path, form, unfound.bounds) {
         return Ok(false);
     }
     let table = Table {
@@ -226,10 +226,10 @@ fn is_closed_along(
     none_in_lists(begun.machines.alloc(), table, about.tasks(), path)
 }
 
-/// True if no list within the bounds is shorter than the path's room.
-fn is_within(path: &Path, bounds: Bounds) -> bool
-    ensures { result ≡ true → path.now.room ≤ most_events bounds
+/// True if the longest lists within the bounds have no fewer events than the path has room for.
+fn is_within(path: &Path, form: Form, bounds: Bounds) -> bool
+    ensures { result ≡ true → path.now.room ≤ most_in_rows form.slices bounds
         (length path.now.root.state.world.tasks) (length path.now.root.state.world.cpus) }
 {
-    path.room() <= Search::most_events(bounds, path.sim_at(0))
+    path.room() <= most_in_rows(form, bounds, path.sim_at(0))
 }

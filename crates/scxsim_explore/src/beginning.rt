@@ -7,6 +7,7 @@ ghost use Rattle.scxsim_explore.specs.Beginning.{IsStart, IsStartOf};
 use crate::limits::{Limit, limit_of};
 use crate::machines::Machines;
 use scx_explore::{Bounds, Form, Mode, SORTS, Search, Starts, form_of, starts_of};
+use scx_explore_bounds::most_in_rows;
 use scx_explore_machines::most_machines;
 use scx_isa::CALLBACKS;
 use scx_load_workloads::Workload;
@@ -238,7 +239,7 @@ fn search_in(
     first: &Sim,
     about: &Workload,
 ) -> Result<(Search, Vec<Event>), AllocError> {
-    let events = Vec::with_capacity(alloc, Search::most_events(bounds, first))?;
+    let events = Vec::with_capacity(alloc, most_in_rows(form, bounds, first))?;
     match search_of(alloc, form, bounds, first, about) {
         Ok(search) => Ok((search, events)),
         Err(AllocError) => {

@@ -1,4 +1,4 @@
-ghost use Rattle.std.specs.Prelude.{◌≡◌, ◌≤◌, ◌⊎◌, ◌∷◌, ◌++◌, [], true, All, IfOk, OnOk, length, take};
+ghost use Rattle.std.specs.Prelude.{◌≡◌, ◌≢◌, ◌≤◌, ◌⊎◌, ◌∷◌, ◌++◌, [], false, true, All, IfOk, OnOk, length, take};
 ghost use Rattle.scxsim_output.specs.Output.{Counts};
 ghost use Rattle.scx_explore.specs.Ends.{IsEndOf};
 ghost use Rattle.scx_explore_findings.specs.Path.{IsAs};
@@ -174,6 +174,7 @@ fn tracks_idle(starts: Starts, sim: &Sim) -> bool
 
 /// The lists that are asked for sorts in that mode.
 fn asked_in(begun: &Begun, mode: Mode) -> Asked
+    ensures mode { result.mode ≡ mode }
     ensures tracks { result.tracks_idle ≡ tracks_idle begun.now.starts begun.now.machines }
     ensures bound { result.are_bound ≡ binds begun.now.machines.state.world }
 {
@@ -185,10 +186,13 @@ fn asked_in(begun: &Begun, mode: Mode) -> Asked
     }
 }
 
-/// Gathers the sorts that weren't found, without overtaken tasks, and returns their number.
+/// Gathers the sorts that weren't found, without overtaken tasks, and returns their number. Of lists of events stalls
+/// aren't among them.
 fn gather_unfound(search: &Search, asked: Asked, found: &[Told], places: &mut [Sort]) -> usize
     ensures most { result ≤ length places.new }
     ensures none { All (HasNone found.now) (take result places.new) }
+    ensures stalls { asked.mode ≡ Mode.Events
+        → All (λ x. x ≢ Sort.Stall) (take result places.new) }
 {
     let mut count = 0;
     for sort in SORTS {
@@ -233,7 +237,9 @@ fn put(places: &mut [Sort], count: usize, sort: Sort) -> usize
 }
 
 /// True if the lists are asked about that sort. If clocks are free, each policy has stalls.
-fn is_asked_about(sort: Sort, asked: Asked) -> bool {
+fn is_asked_about(sort: Sort, asked: Asked) -> bool
+    ensures { asked.mode ≡ Mode.Events → sort ≡ Sort.Stall → result ≡ false }
+{
     match sort {
         Sort::Fault(fault) => is_sought(fault, asked.tracks_idle, asked.are_bound),
         Sort::Idle => true,

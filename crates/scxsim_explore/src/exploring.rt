@@ -59,6 +59,8 @@ pub fn explore<V: Watcher, W: Out>(
         } => {
             let mut begun = begun;
             let mut teller = teller;
+            about.is_whole();
+            begun.machines.first().is_sound();
             let told = tell(&mut begun, &mut teller, form, &about, bounds, watcher, out);
             drop(begun);
             drop(teller);

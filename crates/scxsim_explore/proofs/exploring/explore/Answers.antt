@@ -1,4 +1,5 @@
 use Rattle.std.proofs.Common.{inl, sym, subst}
+use Rattle.scx_sched_policy.specs.Policy.{IsTimeout}
 use Rattle.scx_sched.specs.Sim.{SimState}
 use Rattle.scx_explore_findings.specs.Path.{IsAs}
 use Rattle.scx_explore_findings.proofs.SamePolicy.{as_itself}
@@ -18,4 +19,5 @@ pub returns-in_ok-told-in-Within-clause-done : goal.returns-in_ok-told-in-Within
 returns-in_ok-told-in-Within-clause-done g c =
     let both = rw c.in-Within.is at c.in_ok-limit.ensures.start in
     let told = rw c.in_ok-told-in-Within.was at c.tell-told.ensures.ok in
-    explored c.args.policy.now c.args.workload.now c.args.lists _ _ _ _ _ _ _ c.in-Ok.ensures.bounds both.1 told
+    let limit = subst (λ (s : SimState). IsTimeout s.state.policy.timeout_ms) c.first.ensures c.is_sound.ensures.timeout in
+    explored c.args.policy.now c.args.workload.now c.args.lists _ _ _ _ _ _ _ c.in-Ok.ensures.bounds both.1 c.is_whole.ensures limit told
