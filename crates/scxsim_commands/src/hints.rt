@@ -16,8 +16,8 @@ pub enum Hint {
     ByteOrderMark,
     /// A text of two bytes a character.
     Utf16,
-    /// A run of which a page would hold too much.
-    LongRun,
+    /// A part of a run of which a page would hold too much.
+    LongPart,
 }
 
 impl Hint {
@@ -35,8 +35,8 @@ impl Hint {
             Hint::ByteOrderMark =>
                 "this text begins with a byte-order mark: save it as UTF-8 without one",
             Hint::Utf16 => "this text is UTF-16: save it as UTF-8",
-            Hint::LongRun =>
-                "scxsim view-part POLICY WORKLOAD FROM TO makes the page of a part of the run",
+            Hint::LongPart =>
+                "a shorter part has fewer stretches; scxsim view draws the short ones of a whole run together",
         }
     }
 }
@@ -44,7 +44,7 @@ impl Hint {
 /// A hint at a refusal that isn't the fault of a file.
 pub fn hint_of_refusal(refusal: &Refusal) -> Option<Hint> {
     match refusal {
-        Refusal::TooManyStretches(_) => Some(Hint::LongRun),
+        Refusal::TooManyStretches(_) => Some(Hint::LongPart),
         _ => None,
     }
 }
