@@ -113,7 +113,7 @@ impl Picture {
         sheet.put("\"><title>wakes</title></path>\n");
     }
 
-    /// Draws a frame round each wait that stands out, and round that of a stall.
+    /// Draws a frame round each wait that is far longer than the others, and round that of a stall.
     pub(crate) fn draw_waits(&self, sheet: &mut Sheet) {
         let longest = &self.gathered.longest;
         for wait in &longest.waits {

@@ -141,7 +141,7 @@ impl Longest {
         count >= 4 && wait.length.saturating_mul(count) >= others.saturating_mul(4)
     }
 
-    /// True if a wait stands out, or ended in a stall.
+    /// True if a wait is far longer than the others, or ended in a stall.
     pub fn are_some_framed(&self) -> bool {
         self.stalled.is_some() || self.waits.iter().any(|wait| self.stands_out(*wait))
     }
