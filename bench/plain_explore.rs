@@ -5,8 +5,10 @@
 //!   plain explore POLICY WORKLOAD events|ms DEPTH [FORM] [K]
 //!
 //! FORM says what is kept of a state: `all` (everything), `read` (without what no program reads), `slices` (also
-//! without slices that an insert sets anew before they count) or `alike` (also without who is who in a group; in
-//! `events` alone). No list has more than K wakes and sleeps, if K is given.
+//! without slices that an insert sets anew before they count), `alike` (also without who is who in a group; in
+//! `events` alone) or `rows` (also without how long slices are, but for those that never end; in `events` alone, where no
+//! program loads a slice or a run time and no group has a quota). With `rows` a CPU ticks until its task's slice ends, as
+//! one step. No list has more than K wakes and sleeps, if K is given.
 
 use crate::plain_verify::CALLBACKS;
 use crate::plain_files::{Policy, Workload};
@@ -31,7 +33,8 @@ enum Event {
 #[derive(Clone, Copy)]
 enum Step {
     First,
-    One(Event),
+    /// An event, and how often it comes in a row.
+    One(Event, u64),
     /// Bits for the tasks that wake, and for those that go to sleep.
     Ms(u16, u16),
 }
@@ -75,7 +78,7 @@ impl Words {
             Some(few) => Some(few.parse().ok()?),
             None => None,
         };
-        let is_known = ["all", "read", "slices", "alike"].contains(&form.as_str());
+        let is_known = ["all", "read", "slices", "alike", "rows"].contains(&form.as_str());
         is_known.then_some(Words { ms, depth: words.get(1)?.parse().ok()?, form, few })
     }
 }
@@ -135,7 +138,7 @@ impl Search<'_> {
     fn events_of(&self, step: Step) -> Vec<Event> {
         match step {
             Step::First => Vec::new(),
-            Step::One(event) => vec![event],
+            Step::One(event, times) => vec![event; times as usize],
             Step::Ms(wakes, sleeps) => {
                 let ticks = (0..self.workload.cpus).map(Event::Tick);
                 let before = self.tasks_in(wakes).map(Event::Wake).chain(ticks);
@@ -272,9 +275,21 @@ impl Search<'_> {
             }
         }
         events.extend((0..world.cpus).map(Event::Tick));
-        events.push(Event::Clock);
         events.extend(self.changes().map(Event::Change));
+        events.push(Event::Clock);
         events
+    }
+
+    /// How often the event comes in a row: a tick until the slice of the CPU's task ends, where slices are left out.
+    fn times(&self, event: Event) -> u64 {
+        let (world, Event::Tick(cpu)) = (&self.machine.world, event) else {
+            return 1;
+        };
+        let task = world.running[cpu as usize];
+        if !self.form.rows || task == NOBODY || world.tasks.of(task).slice == u64::MAX {
+            return 1;
+        }
+        world.tasks.of(task).slice.div_ceil(1_000_000).max(1)
     }
 
     fn go_through_events(&mut self, state: &Saved<Watch>) {
@@ -283,8 +298,9 @@ impl Search<'_> {
         for event in self.accepted() {
             self.machine.world.restore(state);
             self.behind.clear();
-            if self.try_event(event) {
-                self.enter(Step::One(event));
+            let times = self.times(event);
+            if (0..times).all(|_| self.try_event(event)) {
+                self.enter(Step::One(event, times));
             }
         }
     }

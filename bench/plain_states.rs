@@ -106,6 +106,8 @@ pub struct Form {
     choices: bool,
     /// Slices of tasks that sleep, or that are held.
     pub slices: bool,
+    /// Whether of a slice only is kept if it never ends.
+    pub rows: bool,
     alike: bool,
 }
 
@@ -118,7 +120,8 @@ impl Form {
         let by_pid = calls(1007);
         let late = |callback| matches!(callback, Callback::Running | Callback::Stopping);
         let early = |(callback, slot): (Callback, Slot)| is_load(slot, 8, 8) && (by_pid || !late(callback));
-        let shortened = matches!(words.form.as_str(), "slices" | "alike");
+        let shortened = matches!(words.form.as_str(), "slices" | "alike" | "rows");
+        let is_counted = is_limited || loads(8, 8) || loads(32, 8);
         Form {
             clock: all || is_limited || calls(5),
             pushes: all,
@@ -130,7 +133,8 @@ impl Form {
             usages: is_limited,
             choices: words.few.is_some(),
             slices: !shortened || machine.slots().any(early),
-            alike: words.form == "alike" && !words.ms && !by_pid && !loads(0, 4),
+            rows: words.form == "rows" && !words.ms && !is_counted,
+            alike: matches!(words.form.as_str(), "alike" | "rows") && !words.ms && !by_pid && !loads(0, 4),
         }
     }
 
@@ -173,7 +177,8 @@ impl Form {
         }
         let is_live = record.is_runnable && usize::from(record.queue) != HELD;
         let wait = if record.since == NEVER { 0 } else { 1 + world.clock - record.since };
-        let slice = if self.slices || is_live { record.slice } else { 0 };
+        let slice = if self.rows { u64::from(record.slice == u64::MAX) } else { record.slice };
+        let slice = if self.slices || is_live { slice } else { 0 };
         numbers.extend([place, ahead as u64, key.is_some().into(), record.prev_cpu.into(), slice]);
         let others = [
             (self.keys, key.unwrap_or(0)),
