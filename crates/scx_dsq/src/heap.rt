@@ -57,6 +57,9 @@ impl Heap {
         ensures room { self.old.room ≤ self.new.room }
     {
         self.items.clear();
+        if other.items.is_empty() {
+            return;
+        }
         match self.items.extend_from_slice(&other.items) {
             Ok(()) => (),
             Err(_) => unreachable!(),

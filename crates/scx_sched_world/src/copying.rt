@@ -2,6 +2,7 @@ ghost use Rattle.std.specs.Prelude.{◌≡◌, ◌≤◌, length, vec_capacity, 
 ghost use Rattle.scx_sched_world.specs.World.{IsLike};
 
 use crate::notes::Note;
+use crate::timers::Alarm;
 use crate::world::World;
 use std::alloc::{AllocError, Global};
 
@@ -24,7 +25,7 @@ impl World {
         self.kicked = other.kicked;
         self.preempted = other.preempted;
         self.tracks_idle = other.tracks_idle;
-        self.timers.copy_from_slice(&other.timers);
+        copy_timers(&mut self.timers, &other.timers);
         self.random = other.random;
         self.queues.copy_from(&other.queues);
         self.tree.copy_from(&other.tree);
@@ -89,6 +90,17 @@ impl World {
     }
 }
 
+/// Replaces the timers by the others, of which there are as many.
+fn copy_timers(timers: &mut Vec<Option<Alarm>>, others: &[Option<Alarm>])
+    requires { length timers.old.items ≡ length others.now }
+    ensures { timers.new.items ≡ others.now }
+{
+    if others.is_empty() {
+        return;
+    }
+    timers.copy_from_slice(others);
+}
+
 /// Replaces the notes by the others, in the memory that there is.
 fn copy_notes(notes: &mut Vec<Note>, others: &[Note])
     requires { length others.now ≤ vec_capacity notes.old }
@@ -96,6 +108,9 @@ fn copy_notes(notes: &mut Vec<Note>, others: &[Note])
     ensures room { vec_capacity notes.old ≤ vec_capacity notes.new }
 {
     notes.clear();
+    if others.is_empty() {
+        return;
+    }
     match notes.extend_from_slice(others) {
         Ok(()) => (),
         Err(_) => unreachable!(),

@@ -34,6 +34,7 @@
 #![tactic(auto)]
 
 mod admission;
+mod copying;
 mod due_shares;
 mod error;
 mod group;

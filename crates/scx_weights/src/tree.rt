@@ -1,6 +1,8 @@
 ghost use Rattle.std.specs.Prelude.{◌≡◌, ℕ, ◌+◌, ◌^◌, ◌<◌, ◌≤◌, true, false, length, IfOk, IfErr, OnOk, OnErr};
+ghost use Rattle.scx_weights.specs.Hierarchy.{masks_in};
 
 use crate::admission::{first_fault, has_bad_own_weight, has_empty_mask};
+use crate::copying::copy_all;
 use crate::error::TreeError;
 use crate::group::{DEFAULT_OWN_WEIGHT, Group, MAX_GROUPS, MAX_TASKS, is_weight};
 use crate::share::weight_in;
@@ -335,10 +337,10 @@ impl Tree {
         requires tasks { length self.old.homes ≡ length other.now.homes }
         ensures { self.new ≡ other.now }
     {
-        self.groups.copy_from_slice(&other.groups);
+        copy_all(&mut self.groups, &other.groups);
         self.homes.copy_from_slice(&other.homes);
         self.own_weights.copy_from_slice(&other.own_weights);
-        self.masks.copy_from_slice(&other.masks);
+        copy_masks(&mut self.masks, &other.masks, other.bound);
         self.bound = other.bound;
         self.active.copy_from_slice(&other.active);
         self.sums.copy_from(&other.sums);
@@ -375,5 +377,16 @@ impl Tree {
         } else {
             tasks + 1
         }
+    }
+}
+
+/// Replaces the masks by the others, of which there are as many, where tasks are bound.
+fn copy_masks(masks: &mut Vec<u64>, others: &[u64], are_bound: bool)
+    requires { length masks.old.items ≡ length others.now }
+    ensures masks { masks_in are_bound masks.new.items ≡ masks_in are_bound others.now }
+    ensures count { length masks.new.items ≡ length masks.old.items }
+{
+    if are_bound {
+        masks.copy_from_slice(others);
     }
 }

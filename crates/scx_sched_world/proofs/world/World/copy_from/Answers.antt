@@ -13,8 +13,8 @@ pub copy_from_slice-requires-2 : goal.copy_from_slice-requires-2
 copy_from_slice-requires-2 c =
     omega (arith, c.self.inside.running_on.ok.0, (fields_alike c.self.inside c.other.inside _ _ c.self.view_is c.other.view_is c.requires).tasks, c.self.invariant.known_running, c.other.invariant.known_running, ap (λ xs. length xs) c.deref-2.ensures.value)
 
-pub copy_from_slice-requires-3 : goal.copy_from_slice-requires-3
-copy_from_slice-requires-3 c =
+pub copy_timers-requires : goal.copy_timers-requires
+copy_timers-requires c =
     omega (arith, c.self.inside.timers.ok.0, (fields_alike c.self.inside c.other.inside _ _ c.self.view_is c.other.view_is c.requires).timers, ap (λ xs. length xs) c.deref-3.ensures.value)
 
 pub copy_from-requires-2 : goal.copy_from-requires-2
