@@ -1,4 +1,4 @@
-ghost use Rattle.std.specs.Prelude.{◌≡◌, ◌∷◌, ◌++◌, [], true, IfOk};
+ghost use Rattle.std.specs.Prelude.{◌≡◌, ◌∷◌, ◌++◌, [], true, length, IfOk};
 ghost use Rattle.scx_explore_states.specs.Written.{joined, word_of};
 
 use crate::queue_numbers::QueueNumbers;
@@ -66,6 +66,27 @@ pub(crate) fn put(words: &mut Vec<u64>, word: u64) -> bool
 
 /// The number of at most eight bytes, high byte first.
 pub(crate) fn word_of(bytes: &[u8]) -> u64
+    ensures { result ≡ word_of bytes.now }
+{
+    if bytes.len() == 8 {
+        word_of_eight(bytes)
+    } else {
+        word_of_few(bytes)
+    }
+}
+
+#[inline(always)]
+fn word_of_eight(bytes: &[u8]) -> u64
+    requires { length bytes.now ≡ 8 }
+    ensures { result ≡ word_of bytes.now }
+{
+    let first = with_byte(with_byte(0, bytes[0]), bytes[1]);
+    let second = with_byte(with_byte(first, bytes[2]), bytes[3]);
+    let third = with_byte(with_byte(second, bytes[4]), bytes[5]);
+    with_byte(with_byte(third, bytes[6]), bytes[7])
+}
+
+fn word_of_few(bytes: &[u8]) -> u64
     ensures { result ≡ word_of bytes.now }
 {
     let mut word = 0;

@@ -73,12 +73,7 @@ impl Form {
         if self.names {
             return Order::OWN;
         }
-        let order = Order::of(sim, rows);
-        if began == 0 {
-            order
-        } else {
-            order.settled(sim, rows, began)
-        }
+        Order::settled(sim, rows, began)
     }
 
     /// Writes the first word and after it those of the state, in place of those in the list.

@@ -1,6 +1,6 @@
 use Rattle.std.proofs.Common.{arith}
 use Rattle.scx_explore_states.proofs.Putting.{word_all, word_more}
-use Rattle.scx_explore_states.proofs.words.word_of.Goals as goal
+use Rattle.scx_explore_states.proofs.words.word_of_few.Goals as goal
 
 pub loop-at-preserved : goal.loop-at-preserved
 loop-at-preserved c =
