@@ -1,22 +1,15 @@
--- A task that begins to run leads from two states that are the same but for what is left out to two such states: it isn't
--- idle as it begins to, so its slice isn't left out any more.
-use Rattle.std.proofs.Common.{◌≡◌, ℕ, ◌==◌, ◌&&◌, ◌||◌, not, Bool, true, false, List, [], ◌∷◌, map, refl, sym, ap, ◌∙◌, subst, inl, inr}
-use Rattle.scx_isa_semantics.specs.declared.callbacks.Callback.TheVariants as callback
+-- Tasks that are idle in one state: where their slices are left out, and no others, two steps come to the same also where more are.
+use Rattle.std.proofs.Common.{◌≡◌, ℕ, ◌&&◌, not, Bool, true, false, List, [], ◌∷◌, map, refl, sym, ap, ◌∙◌, inl, inr}
 use Rattle.scx_sched_world.specs.World.{WorldState}
-use Rattle.scx_sched_world.specs.Tasks.{after_switch}
-use Rattle.scx_sched_world.specs.Ejecting.{after_catch_up}
 use Rattle.scx_sched_policy.specs.Policy.{PolicyState}
-use Rattle.scx_sched_machine.specs.Steps.{State, CallMade, Stepped, with_world, is_ejected, is_by_linux, stays}
-use Rattle.scx_sched_machine.specs.Callbacks.{call_back, one_task}
-use Rattle.scx_sched_machine.specs.Cycle.{after_running, switched}
-use Rattle.scx_explore_findings.specs.IdleSlices.{is_idle, is_idle_of}
+use Rattle.scx_sched_machine.specs.Steps.{State, CallMade, Stepped, with_world}
+use Rattle.scx_explore_findings.specs.IdleSlices.{is_idle, is_put_nowhere, runs_on}
 use Rattle.scx_explore_findings.proofs.IdleRecords.{bits}
-use Rattle.scx_explore_findings.proofs.IdleTasks.{out_busy}
-use Rattle.scx_explore_findings.proofs.Omitting.{Omitted, omit, is_at_hand, in_call, omit_state, omit_call, omit_step, AreAmong, omit_more, omit_as, given_out}
+use Rattle.scx_explore_findings.proofs.Omitting.{Omitted, omit, is_at_hand, in_call, omit_state, omit_call, omit_step, AreAmong, omit_more, omit_as}
 use Rattle.scx_explore_findings.proofs.Helpers.{IsTold, any_among, told_among}
-use Rattle.scx_explore_findings.proofs.Worlds.{Same, hides_switch, hides_catch_up}
 use Rattle.scx_explore_findings.proofs.Runs.{own_calls_more}
-use Rattle.scx_explore_findings.proofs.Steps.{AskNone, Tells, Passes, On, in_world, Turns, after_turn, turns_if, choose, single, passes_call_back}
+use Rattle.scx_explore_findings.proofs.Steps.{AskNone, Tells, Passes}
+use Rattle.scx_dsq.specs.Queues.{entry_of}
 
 -- ---- tasks that are idle in one state
 
@@ -74,35 +67,17 @@ module _ (h : Omitted) (w : WorldState) where
         let y = x (tells_here r q tells) in
         (sym (more_step r) ∙ ap (omit_step h) y.0 ∙ more_step q, y.1)
 
--- ---- a task begins to run
+-- two states that are the same are so without the slices of tasks that are idle in the first one
+module _ (h : Omitted) (s t : State) (same : omit_state h s ≡ omit_state h t) where
+  pub same_here : omit_state (here h s.world) s ≡ omit_state (here h s.world) t
+  same_here =
+      ap (λ (v : WorldState). with_world s v) (as_idle h s.world s.world (λ u. refl)) ∙ same
+      ∙ sym (ap (λ (v : WorldState). with_world t v) (as_idle h s.world t.world (λ u. sym (ap (λ (x : State). is_idle x.world u) same))))
 
-pub alone : (b : Bool) → (b || false) ≡ b
-alone true = refl
-alone false = refl
-
-module _ (h : Omitted) (p : PolicyState) where
-  -- the policy hears that a task runs
-  passes_running : (c t : ℕ) → h.idle t ≡ false → On h p (λ s. after_running s c t)
-  unfolding after_running
-  passes_running c t out s is =
-      choose h p (is_ejected s) (is_ejected s) (stays (with_world s (after_catch_up s.world t))) (stays (with_world (omit_state h s) (after_catch_up (omit h s.world) t))) (call_back s callback.Running (one_task t) t c) (call_back (omit_state h s) callback.Running (one_task t) t c) refl
-      (single h p s (after_catch_up s.world t) (after_catch_up (omit h s.world) t) [] [] (hides_catch_up h t s.world) refl is) (passes_call_back h p callback.Running (one_task t) t c (given_out h callback.Running (one_task t) t (λ u. alone (t == u)) out) s is)
-
-  -- a task has begun to run
-  pub turns_switched : (t : ℕ) → Turns h p (λ s. switched s t)
-  unfolding switched
-  turns_switched t = turns_if h p (λ s. is_by_linux s && not (s.policy.tick_ms == 0)) (λ s. refl) (λ w. after_switch w t) (hides_switch h t)
-
-  passes_begun : (c t : ℕ) → h.idle t ≡ false → On h p (λ s. after_running (switched s t) c t)
-  passes_begun c t out = after_turn h p (λ s. switched s t) (λ s. after_running s c t) (turns_switched t) (passes_running c t out)
-
-module _ (h : Omitted) (p : PolicyState) where
-  -- a task that isn't idle comes to run by a change that doesn't depend on what is left out
-  pub passes_begins : (f : WorldState → WorldState) (c t : ℕ) (s : State) → s.policy ≡ p → is_idle_of h.idle s.world t ≡ false → ((g : Omitted) → is_idle_of g.idle s.world t ≡ false → Same g (f s.world) (f (omit g s.world)))
-      → Passes h p (after_running (switched (with_world s (f s.world)) t) c t) (after_running (switched (with_world (omit_state h s) (f (omit h s.world))) t) c t)
-  passes_begins f c t s is busy hides =
-      let g = here h s.world in
-      let begun : State → Stepped = λ r. after_running (switched r t) c t in
-      follows h s.world p (begun (with_world s (f s.world))) (begun (with_world (omit_state h s) (f (omit h s.world))))
-      (subst (λ (v : WorldState). Passes g p (begun (with_world s (f s.world))) (begun (with_world (omit_state h s) (f v)))) (as_idle h s.world s.world (λ u. refl))
-      (in_world g p begun (passes_begun g p c t busy) s (f s.world) (f (omit g s.world)) (hides g (out_busy g.idle s.world t busy)) is))
+  -- and no task runs of which a slice is left out then
+  pub apart_here : (u : ℕ) → runs_on u s.world.cpus ≡ true → (here h s.world).idle u ≡ false
+  apart_here u e = none (h.idle u) (is_idle s.world u) (ap (λ (b : Bool). not b && is_put_nowhere (entry_of s.world.queues u)) e)
+    where
+      none : (a b : Bool) → b ≡ false → (a && b) ≡ false
+      none true b e = e
+      none false b e = refl

@@ -9,7 +9,7 @@ use Rattle.scx_sched_world.specs.declared.eject.Eject.{Eject}
 use Rattle.scx_sched_world.specs.declared.notes.Note.{Note}
 use Rattle.scx_sched_world.specs.Ids.{builtin_queue, local_on}
 use Rattle.scx_sched_world.specs.World.{WorldState, cycling_by_linux, task_at, running}
-use Rattle.scx_sched_world.specs.Tasks.{after_stop, started_at, after_switch, after_keep}
+use Rattle.scx_sched_world.specs.Tasks.{after_stop, started_at, after_switch, after_keep, to_front}
 use Rattle.scx_sched_world.specs.Ejecting.{after_catch_up, after_charge}
 use Rattle.scx_sched_policy.specs.Policy.{PolicyState, program_of}
 use Rattle.scx_sched_machine.specs.Steps.{State, Stepped, with_world, is_ejected, is_by_linux, kicked, stays, one_after_other}
@@ -18,7 +18,6 @@ use Rattle.scx_sched_machine.specs.Custody.{tells_each, moved_as, hears_dequeue,
 use Rattle.scx_sched_machine.specs.Put.{enters, put}
 use Rattle.scx_sched_machine.specs.Parking.{park_next, supply}
 use Rattle.scx_sched_machine.specs.Cycle.{has_local, keeps_slice, supply_unless_kept, told_of, dispatch_called, after_dispatch, moved_in_vain, asks_again, tries, stopping_called, after_stopping, after_running, put_back, leave, switched, started_if, start, hears_idle, kept, rest, swap, swap_or_rest, builtin_dispatch, builtin_fill, builtin_ask, builtin_cycle, picked, refilled, start_or_cycle, start_picked_or_cycle, makes_way, pick, pick_or_rest, keep_or_pick, conclude, give_up, ask, seek, look, cycling, falls_idle, becomes_idle, concluded, cycle}
-use Rattle.scx_sched_world.specs.Tasks.{to_front}
 use Rattle.scx_sched_machine.proofs.Choices.{keeps_if}
 use Rattle.scx_sched_machine.proofs.Steady.{plain_out}
 use Rattle.scx_sched.proofs.Unchanged.{same_kept, ruled_cycling}
@@ -26,7 +25,8 @@ use Rattle.scx_sched.proofs.Blaming.{plain_on, honest_call_back, honest_supply, 
 use Rattle.scx_explore_findings.specs.Asked.{AskAnyhow}
 use Rattle.scx_explore_findings.specs.Counted.{LoadsNoCount}
 use Rattle.scx_explore_findings.proofs.CountedWorlds.{plain, leaves_stop, leaves_started, leaves_keep}
-use Rattle.scx_explore_findings.proofs.CountedSteps.{two_if, otherwise, StaysOut, IsEven, Ends, Meet, On, Still, even_ends, even_step, plainly, plainly_there, in_force, in_force_there, after_ends, chain, still_fill, still_park_next, still_supply, out_call_back, on_call_back, out_enters, on_put, out_put}
+use Rattle.scx_explore_findings.proofs.CountedSteps.{otherwise, StaysOut, IsEven, Ends, Meet, On, Still, even_ends, even_step, plainly, plainly_there, in_force, in_force_there, after_ends, chain, still_fill, still_park_next, still_supply, out_call_back, on_call_back, out_enters, on_put, out_put}
+use Rattle.scx_explore_findings.proofs.PairedSteps.{two_if}
 
 -- ---- what is done under Linux rules alone
 

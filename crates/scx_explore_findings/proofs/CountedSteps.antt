@@ -12,7 +12,6 @@ use Rattle.scx_vm.specs.declared.arguments.Args.{Args}
 use Rattle.scx_sched_world.specs.declared.call.Insert.{Insert}
 use Rattle.scx_sched_world.specs.declared.eject.Cause.{Cause}
 use Rattle.scx_sched_world.specs.declared.eject.Eject.{Eject}
-use Rattle.scx_sched_world.specs.declared.faults.Fault.{Fault}
 use Rattle.scx_sched_world.specs.Ids.{global, local_on}
 use Rattle.scx_sched_world.specs.World as world
 use Rattle.scx_sched_world.specs.World.{WorldState, are_linux, at_callback}
@@ -21,7 +20,7 @@ use Rattle.scx_sched_world.specs.Ejecting.{eject_of}
 use Rattle.scx_sched_policy.specs.Policy.{PolicyState, program_of}
 use Rattle.scx_sched_machine.specs.Steps.{State, Stepped, with_world, is_ejected, is_by_linux, one_after_other}
 use Rattle.scx_sched_machine.specs.Ejecting.{eject, ejected_for}
-use Rattle.scx_sched_machine.specs.Callbacks.{call_ending, after_callback, answer_fault, end_fault, as_cause, or_cause, cause_of, unless_ejected, acting, call_back, answered_by, task_and_number}
+use Rattle.scx_sched_machine.specs.Callbacks.{call_ending, after_callback, cause_of, unless_ejected, acting, call_back, answered_by, task_and_number}
 use Rattle.scx_sched_machine.specs.Put.{enters, enqueue_choice, enters_builtin, comes_in, put}
 use Rattle.scx_sched_machine.specs.Filling.{fill}
 use Rattle.scx_sched_machine.specs.Parking.{park, if_throttled, park_then, park_next, clear, in_reach, supply}
@@ -32,16 +31,9 @@ use Rattle.scx_explore_findings.specs.Asked.{IfAsksAnyhow, AskAnyhow}
 use Rattle.scx_explore_findings.specs.Counted.{without_counts, uncounted_state, LoadsNoCount}
 use Rattle.scx_explore_findings.proofs.CountedWorlds.{Same, Leaves, plain, across, throttled_same, leaves_leave, leaves_brought, leaves_parked, leaves_enter}
 use Rattle.scx_explore_findings.proofs.CountedRuns.{uncounted_ending, program_same}
+use Rattle.scx_explore_findings.proofs.PairedSteps.{cause_same}
 
--- two choices by tests that say the same
-pub two_if : {A : Type 0} (P : A → A → Type 0) (b c : Bool) (x x' y y' : A) → b ≡ c → P x x' → P y y' → P (cond b x y) (cond c x' y')
-two_if P b c x x' y y' e p q = subst (λ (d : Bool). P (cond b x y) (cond d x' y')) e (go b)
-  where
-    go : (d : Bool) → P (cond d x y) (cond d x' y')
-    go true = p
-    go false = q
-
--- and where both say no
+-- one of two, by tests that both say no
 pub otherwise : {A : Type 0} (P : A → A → Type 0) (b c : Bool) (x x' y y' : A) → b ≡ false → c ≡ false → P y y' → P (cond b x y) (cond c x' y')
 otherwise P b c x x' y y' e f q = subst (λ (d : Bool). P (cond d x y) (cond c x' y')) (sym e) (subst (λ (d : Bool). P y (cond d x' y')) (sym f) q)
 
@@ -256,23 +248,6 @@ module _ (p : PolicyState) (told : AskAnyhow LoadsNoCount p) where
         ∙ ap (λ (m : Maps). uncounted_ending (call_ending o b a m w)) (ap (λ (x : State). x.maps) e.same)
         ∙ sym (ap (λ (q : Option VerifiedProgram). uncounted_ending (call_ending q b a t.maps w)) (acts t s (even_back s t e) b))
 
-    answer_fault_same : (w : WorldState) (n : ℕ) → answer_fault b w n ≡ answer_fault b (without_counts w) n
-    answer_fault_same w n = go b
-      where
-        go : (d : Callback) → answer_fault d w n ≡ answer_fault d (without_counts w) n
-        go callback.SelectCpu = refl
-        go d = refl
-
-    end_fault_same : (w : WorldState) (o : Option ℕ) → end_fault b w o ≡ end_fault b (without_counts w) o
-    end_fault_same w None = refl
-    end_fault_same w (Some n) = answer_fault_same w n
-
-    cause_shown : (e : Ending WorldState) → cause_of b e ≡ cause_of b (uncounted_ending e)
-    cause_shown e = ap (λ (o : Option Fault). or_cause e.outside.call.cause (as_cause o)) (end_fault_same e.outside e.answer)
-
-    cause_same : (s t : State) → IsEven s t → cause_of b (end_of s) ≡ cause_of b (end_of t)
-    cause_same s t e = cause_shown (end_of s) ∙ ap (cause_of b) (end_same s t e) ∙ sym (cause_shown (end_of t))
-
     -- before its cause is looked at
     called_even : (s t : State) → IsEven s t → IsEven (after_callback s.policy (end_of s)) (after_callback t.policy (end_of t))
     called_even s t e =
@@ -304,7 +279,8 @@ module _ (p : PolicyState) (told : AskAnyhow LoadsNoCount p) where
   on_call_back b a u c s t e =
       let v = after_callback s.policy (end_of b a u c s) in
       let w = after_callback t.policy (end_of b a u c t) in
-      subst (λ (o : Option Cause). Ends (ejected_for (cause_of b (end_of b a u c s)) v).state (ejected_for o w).state) (cause_same b a u c s t e)
+      let ends = end_same b a u c s t e in
+      subst (λ (o : Option Cause). Ends (ejected_for (cause_of b (end_of b a u c s)) v).state (ejected_for o w).state) (cause_same b (end_of b a u c s) (end_of b a u c t) (ap (λ (x : Ending WorldState). x.answer) ends) (ap (λ (x : Ending WorldState). x.outside.call.cause) ends) (ap (λ (x : Ending WorldState). x.outside.cpus) ends))
       (ejected_ends (cause_of b (end_of b a u c s)) v w (called_even b a u c s t e))
 
   -- what it answers

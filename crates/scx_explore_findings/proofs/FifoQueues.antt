@@ -30,8 +30,8 @@ use Rattle.scx_sched_world.specs.declared.eject.Cause.{Cause}
 use Rattle.scx_sched_world.specs.declared.eject.Eject.{Eject}
 use Rattle.scx_sched_world.specs.declared.faults.Fault.{Fault}
 use Rattle.scx_sched_world.specs.Ids.{parked_queue, local_on}
-use Rattle.scx_sched_world.specs.World.{WorldState, with_queues, with_tree, is_by_linux, with_kick, at_callback, task_at, with_task, running, is_this, choice, after_claim}
-use Rattle.scx_sched_world.specs.Tasks.{with_since, with_slice, with_home, after_leave, homed, local_cpu, homed_at, after_local, task_after_insert, rank_by, after_preempt_of, after_preempt_at, after_preempt, after_enter, for_cpu, to_front, brought, started_at, after_run, after_keep, put_parked, after_sleep, used_ms, after_reweigh, after_own_weight}
+use Rattle.scx_sched_world.specs.World.{WorldState, with_queues, with_tree, is_by_linux, at_callback, task_at, with_task, choice, after_claim}
+use Rattle.scx_sched_world.specs.Tasks.{with_since, after_leave, homed, after_local, rank_by, after_enter, for_cpu, to_front, brought, started_at, after_run, after_keep, put_parked, after_sleep, used_ms, after_reweigh, after_own_weight}
 use Rattle.scx_sched_world.specs.Helpers.{is_dispatch, with_insert, after_release, insert_or_fault, moved_to_local, helper_after, world_functions}
 use Rattle.scx_sched_policy.specs.Policy.{PolicyState, program_of}
 use Rattle.scx_sched_machine.specs.Steps.{State, Stepped}
@@ -47,6 +47,7 @@ use Rattle.scx_explore_findings.specs.FifoOnly.{is_by_vtime, inserts_by_vtime, I
 use Rattle.scx_explore_findings.proofs.Helpers.{by_helper}
 use Rattle.scx_explore_states.proofs.Queries.{MayAskAt, run_keeps}
 use Rattle.scx_explore_findings.proofs.EventWalk.{cycled_anyhow, eject_policy, IsKeptBySmallSteps, walk_all}
+use Rattle.scx_explore_findings.proofs.Entering.{KeepsHomes, kept_entered, kept_homed}
 
 -- ---- queues
 
@@ -82,39 +83,15 @@ fifo_by w Front f = tt
 fifo_by w (Vtime n) f = absurd f
 
 -- a task has another processor
+order_homes : KeepsHomes IsInOrder
+order_homes = record { home = λ w t c h. h; preempted = λ w t c h. h }
+
 pub order_homed : (w : WorldState) (t c : ℕ) → IsInOrder w → IsInOrder (homed w t c)
-order_homed w t c h = keeps_if IsInOrder (is_by_linux w) (with_task w t (with_home (task_at w t) c)) w h h
-
-order_homed_at : (w : WorldState) (t : ℕ) (o : Option ℕ) → IsInOrder w → IsInOrder (homed_at w t o)
-order_homed_at w t None h = h
-order_homed_at w t (Some c) h = order_homed w t c h
-
-order_preempt_of : (w : WorldState) (c : ℕ) (o : Option ℕ) → IsInOrder w → IsInOrder (after_preempt_of w c o)
-order_preempt_of w c None h = h
-order_preempt_of w c (Some t) h = keeps_if IsInOrder (is_this c w.cycling) w (with_kick (with_task w t (with_slice (task_at w t) 0)) c) h h
-
-order_preempt_at : (w : WorldState) (o : Option ℕ) → IsInOrder w → IsInOrder (after_preempt_at w o)
-order_preempt_at w None h = h
-order_preempt_at w (Some c) h = order_preempt_of w c (running w c) h
-
-order_preempt : (w : WorldState) (i : Insert) → IsInOrder w → IsInOrder (after_preempt w i)
-order_preempt w i h = keeps_if IsInOrder i.preempts (after_preempt_at w (local_cpu w i.queue)) w (order_preempt_at w (local_cpu w i.queue) h) h
+order_homed = kept_homed IsInOrder order_homes
 
 -- a task goes into a queue in order of arrival
 pub order_entered : (w : WorldState) (t : ℕ) (i : Insert) → (w.ejected ≡ None → IsFifo i.rank) → IsInOrder w → IsInOrder (after_enter w t i)
-order_entered w t i f h =
-    keeps_if IsInOrder (nat_lt t (length w.tasks)) (after_preempt home i) w
-    (order_preempt home i (order_homed_at given t at (λ none. (pushed w.queues i.queue t (rank_by w i.rank) (fifo_by w i.rank (f none)) (h none).0, (h none).1))))
-    h
-  where
-    given : WorldState
-    given = with_queues (with_task w t (task_after_insert (task_at w t) i)) (after_push w.queues i.queue t (rank_by w i.rank))
-
-    at : Option ℕ
-    at = local_cpu w i.queue
-
-    home : WorldState
-    home = homed_at given t at
+order_entered w t i f h = kept_entered IsInOrder order_homes w t i h (λ none. (pushed w.queues i.queue t (rank_by w i.rank) (fifo_by w i.rank (f none)) (h none).0, (h none).1))
 
 -- a task leaves its queue
 pub order_left : (w : WorldState) (t : ℕ) → IsInOrder w → IsInOrder (after_leave w t)

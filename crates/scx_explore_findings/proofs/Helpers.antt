@@ -23,12 +23,12 @@ use Rattle.scx_sched_world.specs.declared.kicks.Kick.{Kick}
 use Rattle.scx_sched_world.specs.declared.kicks.Kick.TheVariants.{Any, IfIdle, Preempt}
 use Rattle.scx_dsq.specs.declared.entries.Rank.TheVariants.{Fifo, Front}
 use Rattle.scx_sched_world.specs.declared.notes.What.TheVariants as notes
-use Rattle.scx_sched_world.specs.World.{WorldState, with_queues, with_kick, with_preemption, is_by_linux, running, is_this, current_in, current, this_if, is_free, choice, after_claim, with_note, task_at, with_task}
+use Rattle.scx_sched_world.specs.World.{WorldState, with_queues, with_kick, with_preemption, is_by_linux, running, is_this, current_in, current, this_if, is_free, choice, after_claim, with_note}
 use Rattle.scx_sched_world.specs.declared.passing.Switch.{Switch}
 use Rattle.scx_sched_world.specs.declared.timers.Alarm.{Alarm}
 use Rattle.scx_weights.specs.Counting.{any_below}
 use Rattle.scx_weights.specs.Hierarchy.{own_weight}
-use Rattle.scx_sched_world.specs.Tasks.{after_leave, for_cpu, next_for, with_slice, with_home, homed, homed_at, local_cpu, task_after_insert, rank_by, after_preempt_of, after_preempt_at, after_preempt, after_enter}
+use Rattle.scx_sched_world.specs.Tasks.{after_leave, for_cpu, next_for, homed, after_enter}
 use Rattle.scx_sched_world.specs.Helpers.{with_fault, invalid_if, is_there, can_create, is_dispatch, may_insert_in, may_insert, queue_fault, rank_fault, or_fault, has_preempt, has_head, arrival_rank, flags_fault, cpu_meant, may_go, placing_fault, insert_fault, is_late, after_late, with_insert, with_move, after_release, insert_or_fault, after_insert, insert_answer, insert_of, insert_of_vtime, can_move, moved_to_local, unless_fault, untracked_fault, cpu_fault, ask_fault, fault_or, choice_answer, after_choice, kick_of, kick_fault, kicked_or_fault, after_kick, after_exit, task_or_null, is_current_one, cpu_of_task, may_run_there, after_random, first_free_in, pick_fault, after_pick_by, after_pick, timer_fault, with_timer, alarm_in, given_number, given_task, helper_answer, helper_after, field_of, stored_in, world_functions}
 use Rattle.scx_sched_machine.proofs.Choices.{keeps_if}
 use Rattle.scx_explore_states.specs.Asking.{IsGivenSlice, GivesOne}
@@ -46,6 +46,7 @@ use Rattle.scx_explore_findings.proofs.Leaving.{Less, leave, Alike, Leaves, IsLe
 use Rattle.scx_explore_findings.proofs.Omitting.{Omitted, omit, less, length_same, IfAny, if_any, AreAmong}
 use Rattle.scx_explore_findings.proofs.IdleTasks.{queued_busy, out_busy, may_enter}
 use Rattle.scx_explore_findings.proofs.Worlds.{Hides, plain, read, read_busy, weight_same, group_same, set_task, hides_leave, hides_create, hides_enter, hides_claim, moved_on}
+use Rattle.scx_explore_findings.proofs.Entering.{KeepsHomes, kept_entered, kept_homed}
 
 -- ---- what a call may leave
 
@@ -432,27 +433,14 @@ InsertsNone DsqInsertVtime = ⊥
 InsertsNone f = Unit {0}
 
 -- a task's processor is another
+wants_homes : KeepsHomes WantsIn
+wants_homes = record { home = λ w t c h. h; preempted = λ w t c h. h }
+
 pub wants_homed : (w : WorldState) (t c : ℕ) → WantsIn w → WantsIn (homed w t c)
-wants_homed w t c h = keeps_if WantsIn (is_by_linux w) (with_task w t (with_home (task_at w t) c)) w h h
-
-wants_homed_at : (w : WorldState) (t : ℕ) (o : Option ℕ) → WantsIn w → WantsIn (homed_at w t o)
-wants_homed_at w t None h = h
-wants_homed_at w t (Some c) h = wants_homed w t c h
-
-wants_preempt_of : (w : WorldState) (c : ℕ) (o : Option ℕ) → WantsIn w → WantsIn (after_preempt_of w c o)
-wants_preempt_of w c None h = h
-wants_preempt_of w c (Some t) h = keeps_if WantsIn (is_this c w.cycling) w (with_kick (with_task w t (with_slice (task_at w t) 0)) c) h h
-
-wants_preempt_at : (w : WorldState) (o : Option ℕ) → WantsIn w → WantsIn (after_preempt_at w o)
-wants_preempt_at w None h = h
-wants_preempt_at w (Some c) h = wants_preempt_of w c (running w c) h
+wants_homed = kept_homed WantsIn wants_homes
 
 wants_entered : (w : WorldState) (t : ℕ) (i : Insert) → WantsIn w → WantsIn (after_enter w t i)
-wants_entered w t i h =
-    let given = with_queues (with_task w t (task_after_insert (task_at w t) i)) (after_push w.queues i.queue t (rank_by w i.rank)) in
-    let home = homed_at given t (local_cpu w i.queue) in
-    keeps_if WantsIn (nat_lt t (length w.tasks)) (after_preempt home i) w
-    (keeps_if WantsIn i.preempts (after_preempt_at home (local_cpu home i.queue)) home (wants_preempt_at home (local_cpu home i.queue) (wants_homed_at given t (local_cpu w i.queue) h)) (wants_homed_at given t (local_cpu w i.queue) h)) h
+wants_entered w t i h = kept_entered WantsIn wants_homes w t i h h
 
 wants_released : (w : WorldState) (t : Option ℕ) (i : Insert) → WantsIn w → WantsIn (after_release w t i)
 wants_released w None i h = h

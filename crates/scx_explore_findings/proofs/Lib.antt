@@ -2,6 +2,7 @@ pub mod Records
 pub mod IdleRecords
 pub mod Omitting
 pub mod Leaving
+mod Entering
 pub mod IdleTasks
 pub mod Worlds
 pub mod Helpers
@@ -10,6 +11,10 @@ pub mod Answered
 mod OwnTasks
 pub mod WorldSizes
 pub mod EventWalk
+pub mod Paired
+pub mod PairedSteps
+pub mod PairedCycles
+pub mod PairedEvents
 pub mod EventSizes
 pub mod SamePolicy
 pub mod MachineCopies
@@ -20,7 +25,6 @@ pub mod PathFields
 pub mod PoolCopies
 pub mod Steps
 mod Begun
-pub mod Cycles
 pub mod Events
 mod AnyRounds
 pub mod LeftOut
@@ -36,7 +40,6 @@ pub mod SameQueues
 pub mod SameWorlds
 pub mod SameRuns
 pub mod SameSteps
-pub mod SameCycles
 pub mod SameEvents
 pub mod SameMachines
 pub mod SameShown
@@ -56,7 +59,6 @@ pub mod DelayedWorlds
 pub mod DelayedHelpers
 pub mod DelayedRuns
 pub mod DelayedSteps
-pub mod DelayedCycles
 pub mod DelayedEvents
 pub mod DelayedMachines
 pub mod UnusedGroups

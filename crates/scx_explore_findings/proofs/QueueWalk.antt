@@ -31,8 +31,8 @@ use Rattle.scx_sched_world.specs.declared.eject.Cause.{Cause}
 use Rattle.scx_sched_world.specs.declared.eject.Eject.{Eject}
 use Rattle.scx_sched_world.specs.declared.faults.Fault.{Fault}
 use Rattle.scx_sched_world.specs.Ids.{builtin_queue, parked_queue, local_on}
-use Rattle.scx_sched_world.specs.World.{WorldState, with_queues, with_tree, is_by_linux, with_kick, task_at, with_task, waits, running, is_this, choice, after_claim, at_callback}
-use Rattle.scx_sched_world.specs.Tasks.{with_slice, with_home, after_sleep, after_leave, homed, local_cpu, homed_at, after_local, after_preempt_of, after_preempt_at, after_preempt, task_after_insert, rank_by, after_enter, for_cpu, to_front, brought, after_keep, put_parked, used_ms, after_reweigh, after_own_weight}
+use Rattle.scx_sched_world.specs.World.{WorldState, with_queues, with_tree, is_by_linux, waits, running, choice, after_claim, at_callback}
+use Rattle.scx_sched_world.specs.Tasks.{after_sleep, after_leave, homed, after_local, rank_by, after_enter, for_cpu, to_front, brought, after_keep, put_parked, used_ms, after_reweigh, after_own_weight}
 use Rattle.scx_sched_world.specs.Ejecting.{put_out, put_builtin, after_evictions, cut_task, after_cut}
 use Rattle.scx_sched_world.specs.Helpers.{is_dispatch, with_insert, after_release, insert_or_fault, moved_to_local, helper_after, world_functions}
 use Rattle.scx_sched_policy.specs.Policy.{PolicyState}
@@ -46,6 +46,7 @@ use Rattle.scx_explore_findings.specs.Between.{EventsKeepQueuesSound}
 use Rattle.scx_explore_findings.proofs.Helpers.{by_helper}
 use Rattle.scx_explore_states.proofs.Queries.{IsAllowed, stores_allowed, asks_allowed, run_keeps}
 use Rattle.scx_explore_findings.proofs.EventWalk.{cycled_anyhow, IsKeptBySmallSteps, eject_policy, call_back_policy, put_policy, settled_policy, walk_after}
+use Rattle.scx_explore_findings.proofs.Entering.{KeepsHomes, kept_entered, kept_homed}
 
 apart : (b : Bool) → b ≡ true → b ≡ false → ⊥
 apart b x y = absurd (cc)
@@ -70,29 +71,14 @@ module _ (Q : QueueState → Type 0) (k : IsKeptByQueues Q) where
   abbrev Of : WorldState → Type 0
   Of w = Q w.queues
 
+  of_homes : KeepsHomes Of
+  of_homes = record { home = λ w t c h. h; preempted = λ w t c h. h }
+
   of_homed : (w : WorldState) (t c : ℕ) → Of w → Of (homed w t c)
-  of_homed w t c h = keeps_if Of (is_by_linux w) (with_task w t (with_home (task_at w t) c)) w h h
-
-  of_homed_at : (w : WorldState) (t : ℕ) (o : Option ℕ) → Of w → Of (homed_at w t o)
-  of_homed_at w t None h = h
-  of_homed_at w t (Some c) h = of_homed w t c h
-
-  of_preempt_of : (w : WorldState) (c : ℕ) (o : Option ℕ) → Of w → Of (after_preempt_of w c o)
-  of_preempt_of w c None h = h
-  of_preempt_of w c (Some t) h = keeps_if Of (is_this c w.cycling) w (with_kick (with_task w t (with_slice (task_at w t) 0)) c) h h
-
-  of_preempt_at : (w : WorldState) (o : Option ℕ) → Of w → Of (after_preempt_at w o)
-  of_preempt_at w None h = h
-  of_preempt_at w (Some c) h = of_preempt_of w c (running w c) h
-
-  of_preempt : (w : WorldState) (i : Insert) → Of w → Of (after_preempt w i)
-  of_preempt w i h = keeps_if Of i.preempts (after_preempt_at w (local_cpu w i.queue)) w (of_preempt_at w (local_cpu w i.queue) h) h
+  of_homed = kept_homed Of of_homes
 
   of_entered : (w : WorldState) (t : ℕ) (i : Insert) → Of w → Of (after_enter w t i)
-  of_entered w t i h =
-      let given = with_queues (with_task w t (task_after_insert (task_at w t) i)) (after_push w.queues i.queue t (rank_by w i.rank)) in
-      let home = homed_at given t (local_cpu w i.queue) in
-      keeps_if Of (nat_lt t (length w.tasks)) (after_preempt home i) w (of_preempt home i (of_homed_at given t (local_cpu w i.queue) (k.pushed w.queues i.queue t (rank_by w i.rank) h))) h
+  of_entered w t i h = kept_entered Of of_homes w t i h (k.pushed w.queues i.queue t (rank_by w i.rank) h)
 
   of_local : (w : WorldState) (c t : ℕ) → Of w → Of (after_local w c t)
   of_local w c t h = of_homed (with_queues w (after_push w.queues (local_on c) t Fifo)) t c (k.pushed w.queues (local_on c) t Fifo h)

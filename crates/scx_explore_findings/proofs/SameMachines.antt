@@ -15,7 +15,7 @@ use Rattle.scx_sched.specs.Sim.{SimState, max_events, refusal, stepped_if, after
 use Rattle.scx_load_driver.specs.Runs.{notes_of_all}
 use Rattle.scx_explore_findings.specs.QueueOrder.{AreAsQueues}
 use Rattle.scx_explore_findings.specs.UnreadParts.{Parts, AreAlike, AreAsStates, AreSame, AnswersAlike, EventsReadNoSuchPart, ListsReadNoSuchPart, parts_of}
-use Rattle.scx_explore_findings.proofs.SameSteps.{re, Passes, from}
+use Rattle.scx_explore_findings.proofs.SameSteps.{re, Passes}
 use Rattle.scx_explore_findings.proofs.SameEvents.{passes_event, refusal_same}
 
 -- ---- one event
@@ -32,7 +32,7 @@ module _ (s t : SimState) (same : AreSame s t) (e : Event) where
   refused_alike = refusal_same e s.state (parts_of t.state.world) ∙ ap (λ (x : State). machine.refusal x e) same.rest
 
   stepped_alike : Passes false (event_step s.state e) (event_step t.state e)
-  stepped_alike = from (λ x. event_step x e) (passes_event e) s.state t.state same
+  stepped_alike = passes_event e s.state t.state same
 
   module _ (here : s.events < max_events) (there : t.events < max_events) where
     refusal_alike : refusal s e ≡ refusal t e

@@ -1,58 +1,38 @@
--- Callbacks, ejections and puts lead from two states that are the same but for what is left out to two such states.
-use Rattle.std.proofs.Common.{◌≡◌, ℕ, zero, suc, Bool, true, false, cond, List, [], ◌∷◌, ◌++◌, length, map, ◌&&◌, Option, Some, None, is_some, refl, sym, ap, ◌∙◌, subst, ◌==◌, nat_lt, arith, ◌⊎◌, inl, inr}
+-- Callbacks and ejections lead from two states that are the same but for what is left out to two such states.
+use Rattle.std.proofs.Common.{◌≡◌, ℕ, zero, suc, Bool, List, [], ◌∷◌, ◌++◌, length, map, ◌&&◌, Option, Some, None, refl, sym, ap, ◌∙◌, subst, nat_lt, ◌⊎◌, inl, inr}
 use mathlib.Core.List.{map-append}
-use Rattle.scx_dsq.specs.Queues.{front_of}
 use Rattle.scx_isa_semantics.specs.declared.callbacks.Callback.{Callback}
-use Rattle.scx_isa_semantics.specs.declared.callbacks.Callback.TheVariants as callback
 use Rattle.scx_isa_semantics.specs.Elements.{Maps}
 use Rattle.scx_isa_semantics.specs.Endings.{Ending}
 use Rattle.scx_isa_semantics.specs.Machine.{start}
 use Rattle.scx_vm.specs.Programs.{VerifiedProgram}
 use Rattle.scx_vm.specs.Arguments.{program_arguments}
 use Rattle.scx_vm.specs.declared.arguments.Args.{Args}
-use Rattle.scx_sched_world.specs.declared.call.Insert.{Insert}
 use Rattle.scx_sched_world.specs.declared.eject.Cause.{Cause}
 use Rattle.scx_sched_world.specs.declared.eject.Eject.{Eject}
-use Rattle.scx_sched_world.specs.declared.faults.Fault.{Fault}
 use Rattle.scx_sched_world.specs.declared.notes.Note.{Note}
-use Rattle.scx_sched_world.specs.Ids.{global, local_on, held_queue}
-use Rattle.scx_sched_world.specs.World.{WorldState, at_callback, note_now, is_throttled, waits, running}
-use Rattle.scx_sched_world.specs.Tasks.{after_enter, fill_front, after_fill, put_parked, after_leave, next_for, local_len}
+use Rattle.scx_sched_world.specs.World.{WorldState, at_callback, note_now, waits, running}
+use Rattle.scx_sched_world.specs.Tasks.{after_leave}
 use Rattle.scx_sched_world.specs.Ejecting.{eject_of, put_builtin, put_out, after_evictions, evict_notes, after_cut, eject_note, cut_task}
 use Rattle.scx_sched_policy.specs.Policy.{PolicyState, program_of}
-use Rattle.scx_sched_machine.specs.Steps.{State, CallMade, Stepped, with_world, is_ejected, is_by_linux, stays, after, one_after_other}
+use Rattle.scx_sched_machine.specs.Steps.{State, CallMade, Stepped, with_world, one_after_other}
 use Rattle.scx_sched_machine.specs.Ejecting.{moves_over, eject, ejected_for}
-use Rattle.scx_sched_machine.specs.Callbacks.{call_ending, after_callback, calls_of, answer_fault, end_fault, as_cause, or_cause, cause_of, unless_ejected, acting, call_back, call_by_linux, answered_by, noted_by, task_and_number}
-use Rattle.scx_sched_machine.specs.Put.{enters, enqueue_choice, enters_builtin, comes_in, put}
-use Rattle.scx_sched_machine.specs.Filling.{move_note, fill}
-use Rattle.scx_sched_machine.specs.Parking.{park, if_throttled, throttled_front, park_then, park_next, clear, in_reach, supply}
+use Rattle.scx_sched_machine.specs.Callbacks.{call_ending, after_callback, calls_of, cause_of, unless_ejected, acting, call_back, answered_by, noted_by}
 use Rattle.scx_explore_findings.specs.Asked.{AsksWithin, IfAsksAnyhow, AskAnyhow, OwnCallsAsk}
 use Rattle.scx_explore_findings.specs.Unread.{ReadsNone}
 use Rattle.scx_sched_machine.proofs.Choices.{keeps_if}
-use Rattle.std.proofs.lemmas.Bool.{eqb-true}
-use Rattle.scx_sched_world.proofs.Fronts.{front_in}
-use Rattle.scx_sched.proofs.Seen.{next_seen}
-use Rattle.scx_explore_findings.specs.IdleSlices.{is_idle, is_idle_of, TellsNoSlice, TellNoSlices}
-use Rattle.scx_explore_findings.proofs.Records.{alike_if}
-use Rattle.scx_explore_findings.proofs.Omitting.{Omitted, omit, but_at_hand, in_call, omit_state, omit_call, omit_step, IfAny, if_any, omit_as, IsOutAt, early_out, out_same, among_call}
-use Rattle.scx_explore_findings.proofs.IdleTasks.{queued_busy, MayEnter, Given, Held, may_enter}
-use Rattle.scx_explore_findings.proofs.Worlds.{Same, Hides, plain, both, throttled_same, hides_enter, hides_brought, hides_parked, hides_parked_from, hides_put_builtin, hides_move_over, move_notes_same, hides_cut}
+use Rattle.scx_explore_findings.specs.IdleSlices.{is_idle, TellsNoSlice, TellNoSlices}
+use Rattle.scx_explore_findings.proofs.Omitting.{Omitted, omit, but_at_hand, in_call, omit_state, omit_call, omit_step, IfAny, if_any, omit_as, IsOutAt, out_same, among_call}
+use Rattle.scx_explore_findings.proofs.Worlds.{Hides, plain, both, hides_move_over, move_notes_same, hides_cut}
 use Rattle.scx_explore_findings.proofs.Helpers.{IsTold, any_among, told_among, Wants}
 use Rattle.scx_explore_findings.proofs.Runs.{asks_more, program_tells, calls_there, omit_ending, program_same, program_wants}
+use Rattle.scx_explore_findings.proofs.PairedSteps.{cause_same}
 
 -- no program asks for anything that is left out, whatever it is given and answered, and where slices are left out each
 -- insert gives one
 pub record TellNothing (h : Omitted) (p : PolicyState) : Type 0 where
   pub unread : AskAnyhow (ReadsNone h.parts) p
   pub told : IfAny h.idle (TellNoSlices p)
-
--- a local queue isn't that of held tasks
-pub local_other : (c : ℕ) → (local_on c == held_queue) ≡ false
-local_other c = go (local_on c == held_queue) refl
-  where
-    go : (b : Bool) → (local_on c == held_queue) ≡ b → b ≡ false
-    go true e = let is = eqb-true (local_on c) held_queue e in absurd (omega (arith, is))
-    go false e = refl
 
 -- an ejection forgets what was wanted
 eject_wants : (s : State) (x : Eject) → Wants (eject s x).state.world.call.insert
@@ -127,127 +107,57 @@ module _ (h : Omitted) (p : PolicyState) where
       two : (x y z : Stepped) → AskNone (x.calls ++ (y.calls ++ z.calls)) → AskNone (x.calls ++ y.calls)
       two x y z a = let of = none_of x.calls (y.calls ++ z.calls) a in none_both x.calls y.calls of.0 (none_of y.calls z.calls of.1).0
 
-  first_if : (b : Bool) (r r' : Stepped) → AskNone (cond b (one_after_other r r') r).calls → AskNone r.calls
-  first_if true r r' a = (none_of r.calls r'.calls a).0
-  first_if false r r' a = a
-
-  -- of a step that is followed by another one where a test says so
-  pub tells_first_if : (b c : Bool) (r r' q q' : Stepped) → Tells (cond b (one_after_other r r') r) (cond c (one_after_other q q') q) → Tells r q
-  tells_first_if b c r r' q q' tells = tells_so (cond b (one_after_other r r') r) (cond c (one_after_other q q') q) r q (first_if b r r') (first_if c q q') tells
-
   -- steps with the same calls but for what is left out
   calls_as : (r q : Stepped) → omit_step h r ≡ omit_step h q → AskNone r.calls → AskNone q.calls
   calls_as r q e a = calls_there h p r.calls q.calls (ap (λ (x : Stepped). x.calls) e) a
 
   -- ---- how steps are made of others
 
-  -- of two steps that come to the same as two others, which are one
-  meet : (r r' q q' : Stepped) → (Tells r r' → omit_step h r ≡ omit_step h r') → (Tells q q' → omit_step h q ≡ omit_step h q') → r' ≡ q' → Tells r q → omit_step h r ≡ omit_step h q
-  meet r r' q q' one other e (inl tells) = one (inl tells) ∙ ap (omit_step h) e ∙ sym (other (inl tells))
-  meet r r' q q' one other e (inr (inl a)) =
-      let x = one (inr (inl a)) in
-      x ∙ ap (omit_step h) e ∙ sym (other (inr (inr (subst (λ (y : Stepped). AskNone y.calls) e (calls_as r r' x a)))))
-  meet r r' q q' one other e (inr (inr a)) =
-      let y = other (inr (inl a)) in
-      one (inr (inr (subst (λ (x : Stepped). AskNone x.calls) (sym e) (calls_as q q' y a)))) ∙ ap (omit_step h) e ∙ sym y
+  -- what is known of two steps that come to the same as two others, which are one, is known of the first and of what it comes to
+  tells_here : (r r' q q' : Stepped) → (Tells q q' → omit_step h q ≡ omit_step h q') → r' ≡ q' → Tells r q → Tells r r'
+  tells_here r r' q q' other e (inl tells) = inl tells
+  tells_here r r' q q' other e (inr (inl a)) = inr (inl a)
+  tells_here r r' q q' other e (inr (inr a)) = inr (inr (subst (λ (x : Stepped). AskNone x.calls) (sym e) (calls_as q q' (other (inr (inl a))) a)))
 
-  -- the policy stays in steps of which nothing is known of the other one
-  kept_as : (r r' q q' : Stepped) → Passes r r' → Passes q q' → r' ≡ q' → Tells r q → r.state.policy ≡ p
-  kept_as r r' q q' one other e (inl tells) = (one (inl tells)).1
-  kept_as r r' q q' one other e (inr (inl a)) = (one (inr (inl a))).1
-  kept_as r r' q q' one other e (inr (inr a)) = (one (inr (inr (subst (λ (x : Stepped). AskNone x.calls) (sym e) (calls_as q q' (other (inr (inl a))).0 a))))).1
+  turned_round : (r q : Stepped) → Tells r q → Tells q r
+  turned_round r q (inl tells) = inl tells
+  turned_round r q (inr (inl a)) = inr (inr a)
+  turned_round r q (inr (inr a)) = inr (inl a)
 
-  pub joined_alike : (r r' q q' : Stepped) → Passes r r' → Passes q q' → r' ≡ q' → Passes r q
-  joined_alike r r' q q' one other e tells = (meet r r' q q' (λ k. (one k).0) (λ k. (other k).0) e tells, kept_as r r' q q' one other e tells)
+  -- a step of two states that are the same, where each of them goes as without what is left out
+  module _ (f : State → Stepped) (on : On f) (s t : State) (e : omit_state h s ≡ omit_state h t) (is : s.policy ≡ p) where
+    is_there : t.policy ≡ p
+    is_there = sym (ap (λ (x : State). x.policy) e) ∙ is
 
-  -- from two states that are the same such a step comes to the same
-  pub from : (f : State → Stepped) → On f → (s t : State) → omit_state h s ≡ omit_state h t → s.policy ≡ p → Passes (f s) (f t)
-  from f on s t e is =
-      let there : t.policy ≡ p = sym (ap (λ (x : State). x.policy) e) ∙ is in
-      joined_alike (f s) (f (omit_state h s)) (f t) (f (omit_state h t)) (on s is) (on t there) (ap f e)
+    -- what is known of both steps is known of the first one and of what it comes to without what is left out
+    pub known_here : Tells (f s) (f t) → Tells (f s) (f (omit_state h s))
+    known_here tells = tells_here (f s) (f (omit_state h s)) (f t) (f (omit_state h t)) (λ k. (on t is_there k).0) (ap f e) tells
 
-  -- where what a callback wants has a slice, if slices are left out
-  abbrev pub OnGiven : (State → Stepped) → Type 0
-  OnGiven f = (s : State) → s.policy ≡ p → IfAny h.idle (Wants s.world.call.insert) → Passes (f s) (f (omit_state h s))
+    -- and of the second one
+    pub known_there : Tells (f s) (f t) → Tells (f t) (f (omit_state h t))
+    known_there tells = tells_here (f t) (f (omit_state h t)) (f s) (f (omit_state h s)) (λ k. (on s is k).0) (sym (ap f e)) (turned_round (f s) (f t) tells)
 
-  pub from_given : (f : State → Stepped) → OnGiven f → (s t : State) → omit_state h s ≡ omit_state h t → s.policy ≡ p → IfAny h.idle (Wants s.world.call.insert) → Passes (f s) (f t)
-  from_given f on s t e is wants =
-      let there : t.policy ≡ p = sym (ap (λ (x : State). x.policy) e) ∙ is in
-      let same : s.world.call.insert ≡ t.world.call.insert = ap (λ (x : State). x.world.call.insert) e in
-      joined_alike (f s) (f (omit_state h s)) (f t) (f (omit_state h t)) (on s is wants) (on t there (if_any h.idle (subst Wants same) wants)) (ap f e)
-
-  -- from two worlds that are the same
-  pub in_world : (f : State → Stepped) → On f → (s : State) (v w : WorldState) → Same h v w → s.policy ≡ p → Passes (f (with_world s v)) (f (with_world (omit_state h s) w))
-  in_world f on s v w e is = from f on (with_world s v) (with_world (omit_state h s) w) (ap (λ (u : WorldState). with_world s u) e) is
-
-  -- a change of the state, under the same policy, doesn't depend on what is left out
-  abbrev pub Turns : (State → State) → Type 0
-  Turns f = (s : State) → (omit_state h (f s) ≡ omit_state h (f (omit_state h s))) × ((f s).policy ≡ s.policy)
-
-  -- a step after such a change
-  pub after_turn : (f : State → State) (g : State → Stepped) → Turns f → On g → On (λ s. g (f s))
-  after_turn f g turn on s is = from g on (f s) (f (omit_state h s)) (turn s).0 ((turn s).1 ∙ is)
-
-  -- the world is changed
-  pub turns_world : (f : WorldState → WorldState) → Hides h f → Turns (λ s. with_world s (f s.world))
-  turns_world f k s = (ap (λ (u : WorldState). with_world s u) (k s.world), refl)
-
-  -- a step, and then such a change
-  pub turned : (k : State → State) → Turns k → (r q : Stepped) → Passes r q → Passes (record r { state = k r.state }) (record q { state = k q.state })
-  turned k turn r q x tells = (
-    ap (λ (u : State). record r { state = u; calls = (omit_step h r).calls }) (turn r.state).0
-        ∙ ap (λ (u : Stepped). record u { state = omit_state h (k u.state) }) (x tells).0
-        ∙ sym (ap (λ (u : State). record q { state = u; calls = (omit_step h q).calls }) (turn q.state).0),
-    (turn r.state).1 ∙ (x tells).1,
-  )
-
-  -- the world is changed where a test says so
-  pub turns_if : (b : State → Bool) → ((s : State) → b s ≡ b (omit_state h s)) → (f : WorldState → WorldState) → Hides h f → Turns (λ s. cond (b s) (with_world s (f s.world)) s)
-  turns_if b e f k s = (
-    alike_if (omit_state h) (b s) (b (omit_state h s)) (with_world s (f s.world)) (with_world (omit_state h s) (f (omit h s.world))) s (omit_state h s) (e s) (ap (λ (u : WorldState). with_world s u) (k s.world)) (ap (λ (u : WorldState). with_world s u) (plain h s.world)),
-    keeps_if (λ (x : State). x.policy ≡ s.policy) (b s) (with_world s (f s.world)) s refl refl,
-  )
+    -- it comes to the same
+    pub from : Passes (f s) (f t)
+    from tells =
+        let x = on s is (known_here tells) in
+        (x.0 ∙ ap (λ (y : State). omit_step h (f y)) e ∙ sym (on t is_there (known_there tells)).0, x.1)
 
   joined : (r q : Stepped) → omit_step h (one_after_other r q) ≡ one_after_other (omit_step h r) (omit_step h q)
   joined r q = ap (λ (cs : List CallMade). record { state = omit_state h q.state; notes = r.notes ++ q.notes; calls = cs }) (map-append (omit_call h) r.calls q.calls)
 
+  -- one after another
   pub joins : (r q r' q' : Stepped) → Passes r q → (omit_step h r ≡ omit_step h q → r.state.policy ≡ p → Passes r' q') → Passes (one_after_other r r') (one_after_other q q')
   joins r q r' q' first then tells =
       let e = first (tells_first r r' q q' tells) in
       let x = then e.0 e.1 (tells_second r r' q q' tells) in
       (joined r r' ∙ ap (λ (y : Stepped). one_after_other y (omit_step h r')) e.0 ∙ ap (λ (y : Stepped). one_after_other (omit_step h q) y) x.0 ∙ sym (joined q q'), x.1)
 
-  -- one after another
-  pub chain : (r q : Stepped) (f : State → Stepped) → Passes r q → On f → Passes (one_after_other r (f r.state)) (one_after_other q (f q.state))
+  chain : (r q : Stepped) (f : State → Stepped) → Passes r q → On f → Passes (one_after_other r (f r.state)) (one_after_other q (f q.state))
   chain r q f first on = joins r q (f r.state) (f q.state) first (λ e is. from f on r.state q.state (ap (λ (y : Stepped). y.state) e) is)
-
-  pub chain_given : (r q : Stepped) (f : State → Stepped) → Passes r q → (Tells r q → IfAny h.idle (Wants r.state.world.call.insert)) → OnGiven f → Passes (one_after_other r (f r.state)) (one_after_other q (f q.state))
-  chain_given r q f first wants on tells =
-      joins r q (f r.state) (f q.state) first (λ e is. from_given f on r.state q.state (ap (λ (y : Stepped). y.state) e) is (wants (tells_first r (f r.state) q (f q.state) tells))) tells
-
-  -- with notes in front
-  pub noted : (ns : List Note) (r q : Stepped) → Passes r q → Passes (after ns r) (after ns q)
-  noted ns r q e tells = (ap (λ (y : Stepped). after ns y) (e tells).0, (e tells).1)
-
-  -- one of two
-  pub choose : (b c : Bool) (r r' q q' : Stepped) → b ≡ c → Passes r r' → Passes q q' → Passes (cond b r q) (cond c r' q')
-  choose b c r r' q q' e x y = subst (λ (d : Bool). Passes (cond b r q) (cond d r' q')) e (go b)
-    where
-      go : (d : Bool) → Passes (cond d r q) (cond d r' q')
-      go true = x
-      go false = y
 
   abbrev made : State → WorldState → List Note → Stepped
   made s w ns = record { state = with_world s w; notes = ns; calls = [] }
-
-  -- a step that changes the world alone, and notes that
-  pub single : (s : State) (v w : WorldState) (ns ms : List Note) → Same h v w → ns ≡ ms → s.policy ≡ p → Passes (record { state = with_world s v; notes = ns; calls = [] }) (record { state = with_world (omit_state h s) w; notes = ms; calls = [] })
-  single s v w ns ms e f is tells =
-      (ap (λ (u : WorldState). made s u ns) e ∙ ap (λ (us : List Note). made s (omit h w) us) f, is)
-
-  -- nothing is done
-  pub rests : On stays
-  rests s is = single s s.world (omit h s.world) [] [] (plain h s.world) refl is
 
   -- ---- an ejection
 
@@ -261,14 +171,16 @@ module _ (h : Omitted) (p : PolicyState) where
   -- the policy is ejected
   pub passes_eject : (x : Eject) → On (λ s. eject s x)
   unfolding eject moves_over
-  passes_eject x s is =
-      let w = s.world in
-      single s (behind x w) (behind x (omit h w)) (note_now w (eject_note x) ∷ evict_notes (length w.tasks) (put_out w x)) (note_now w (eject_note x) ∷ evict_notes (length (omit h w).tasks) (put_out (omit h w) x))
-      (hides_behind x w) (ap (λ (ns : List Note). note_now w (eject_note x) ∷ ns) (move_notes_same h (put_out w x))) is
+  passes_eject x s is tells =
+      let w = s.world in (
+        ap (λ (u : WorldState). made s u (note_now w (eject_note x) ∷ evict_notes (length w.tasks) (put_out w x))) (hides_behind x w)
+            ∙ ap (λ (ns : List Note). made s (omit h (behind x (omit h w))) (note_now w (eject_note x) ∷ ns)) (move_notes_same h (put_out w x)),
+        is,
+      )
 
   -- it is ejected if there was a cause
-  pub passes_ejected_for : (o : Option Cause) → On (ejected_for o)
-  passes_ejected_for None s is = rests s is
+  passes_ejected_for : (o : Option Cause) → On (ejected_for o)
+  passes_ejected_for None s is = λ tells. (ap (λ (u : WorldState). made s u []) (plain h s.world), is)
   passes_ejected_for (Some x) s is = passes_eject (eject_of x s.world.clock) s is
 
   -- ---- callbacks
@@ -367,20 +279,6 @@ module _ (h : Omitted) (p : PolicyState) where
   calls_same (Some q) b a out maps w =
       ap (λ (v : WorldState). record { callback = b; program = q; arguments = a; maps = maps; world = v } ∷ []) (world_same b a out w ∙ plain h w ∙ sym (world_same b a out (omit h w)))
 
-  answer_fault_same : (b : Callback) (w : WorldState) (n : ℕ) → answer_fault b w n ≡ answer_fault b (omit h w) n
-  answer_fault_same callback.SelectCpu w n = refl
-  answer_fault_same b w n = refl
-
-  end_fault_same : (b : Callback) (w : WorldState) (o : Option ℕ) → end_fault b w o ≡ end_fault b (omit h w) o
-  end_fault_same b w None = refl
-  end_fault_same b w (Some n) = answer_fault_same b w n
-
-  cause_shown : (b : Callback) (e : Ending WorldState) → cause_of b e ≡ cause_of b (omit_ending h e)
-  cause_shown b e = ap (λ (o : Option Fault). or_cause e.outside.call.cause (as_cause o)) (end_fault_same b e.outside e.answer)
-
-  cause_same : (b : Callback) (e f : Ending WorldState) → omit_ending h e ≡ omit_ending h f → cause_of b e ≡ cause_of b f
-  cause_same b e f x = cause_shown b e ∙ ap (cause_of b) x ∙ sym (cause_shown b f)
-
   -- what a callback leaves, before its cause is looked at
   abbrev ended : PolicyState → List CallMade → Ending WorldState → Stepped
   ended q cs e = record { state = after_callback q e; notes = e.outside.notes; calls = cs }
@@ -412,39 +310,8 @@ module _ (h : Omitted) (p : PolicyState) where
       go : omit_ending h e ≡ omit_ending h f → Passes (call_back s b a t c) (call_back (omit_state h s) b a t c)
       go same =
           subst (λ (o : Option Cause). Passes (one_after_other (ended s.policy cs e) (ejected_for (cause_of b e) (after_callback s.policy e))) (one_after_other (ended s.policy ds f) (ejected_for o (after_callback s.policy f))))
-          (cause_same b e f same)
+          (cause_same b e f (ap (λ (x : Ending WorldState). x.answer) same) (ap (λ (x : Ending WorldState). x.outside.call.cause) same) (ap (λ (x : Ending WorldState). x.outside.cpus) same))
           (chain (ended s.policy cs e) (ended s.policy ds f) (ejected_for (cause_of b e)) (ended_same s.policy cs ds e f is (calls_same (acting s b) b a out s.maps w) same) (passes_ejected_for (cause_of b e)))
-
-  -- a callback that Linux rules call more
-  pub passes_call_by_linux : (b : Callback) (a : Args) (t c : ℕ) → IsOutAt h b a → On (λ s. call_by_linux s b a t c)
-  unfolding call_by_linux
-  passes_call_by_linux b a t c out s is =
-      let is_called = is_by_linux s && is_some (program_of s.policy b) in
-      choose is_called is_called (call_back s b a t c) (call_back (omit_state h s) b a t c) (stays s) (stays (omit_state h s)) refl (passes_call_back b a t c out s is) (rests s is)
-
-  -- ---- a task that is put
-
-  -- a task comes to wait where an insert wants it
-  pub passes_enters : (t : ℕ) (i : Insert) → MayEnter h.idle t i → On (λ s. enters s t i)
-  unfolding enters
-  passes_enters t i may s is = single s (after_enter s.world t i) (after_enter (omit h s.world) t i) _ _ (hides_enter h t i may s.world) refl is
-
-  passes_enters_builtin : (t : ℕ) → On (λ s. enters_builtin s t)
-  unfolding enters_builtin
-  passes_enters_builtin t s is = single s (put_builtin s.world t) (put_builtin (omit h s.world) t) _ _ (hides_put_builtin h t s.world) refl is
-
-  -- where enqueue wants it a task is given a slice, or it is held
-  given_choice : (q : Option VerifiedProgram) (t c : ℕ) (o : Option Insert) → IfAny h.idle (Wants o) → MayEnter h.idle t (enqueue_choice q c o)
-  given_choice None t c o wants = Given refl
-  given_choice (Some x) t c None wants = Held refl
-  given_choice (Some x) t c (Some i) wants = may_enter h.idle t (enqueue_choice (Some x) c (Some i)) wants
-
-  passes_comes_in : (t c : ℕ) → OnGiven (λ s. comes_in s t c)
-  unfolding comes_in
-  passes_comes_in t c s is wants =
-      let i = enqueue_choice s.policy.callbacks.enqueue c s.world.call.insert in
-      choose (is_ejected s) (is_ejected s) (enters_builtin s t) (enters_builtin (omit_state h s) t) (enters s t i) (enters (omit_state h s) t i) refl (passes_enters_builtin t s is)
-      (passes_enters t i (given_choice s.policy.callbacks.enqueue t c s.world.call.insert wants) s is)
 
   -- what a callback wants has a slice, as its program gives one, and an ejection forgets it
   ejected_wants : (o : Option Cause) (s : State) → Wants s.world.call.insert → Wants (ejected_for o s).state.world.call.insert
@@ -456,86 +323,3 @@ module _ (h : Omitted) (p : PolicyState) where
   call_back_wants b a t c out s is tells =
       let e = call_ending (acting s b) b a s.maps (at_callback s.world b t c) in
       if_any h.idle (ejected_wants (cause_of b e) (after_callback s.policy e)) (end_wants b a t c out s is (asks_of b a t c out s is tells))
-
-  -- a task is put
-  pub passes_put : (t c flags : ℕ) → On (λ s. put s t c flags)
-  unfolding put
-  passes_put t c flags s is =
-      let a = task_and_number t flags in
-      let out = early_out h callback.Enqueue a refl in
-      chain_given (call_back s callback.Enqueue a t c) (call_back (omit_state h s) callback.Enqueue a t c) (λ r. comes_in r t c)
-      (passes_call_back callback.Enqueue a t c out s is) (call_back_wants callback.Enqueue a t c out s is) (passes_comes_in t c)
-
-  -- ---- local queues are filled, and their fronts parked
-
-  -- where a queue is one of tasks that aren't held, its first task isn't idle
-  fills : (q c : ℕ) → (q == held_queue) ≡ false → (w : WorldState) (t : ℕ) → fill_front w q c ≡ Some t → is_idle_of h.idle w t ≡ false
-  fills q c other w t e = go (nat_lt 0 (local_len w c)) e
-    where
-      go : (b : Bool) → (cond b None (next_for w q c)) ≡ Some t → is_idle_of h.idle w t ≡ false
-      go true is = absurd (cc)
-      go false is = queued_busy h.idle w t q other (next_seen w q c t is).there
-
-  note_same : (o : Option ℕ) (w : WorldState) (c : ℕ) → move_note w o c ≡ move_note (omit h w) o c
-  note_same None w c = refl
-  note_same (Some t) w c = refl
-
-  -- a local queue is filled
-  pub passes_fill : (q c : ℕ) → (q == held_queue) ≡ false → On (λ s. fill s q c)
-  unfolding fill
-  passes_fill q c other s is = single s (after_fill s.world q c) (after_fill (omit h s.world) q c) _ _ (hides_brought h (fill_front s.world q c) c s.world (fills q c other s.world)) (note_same (fill_front s.world q c) s.world c) is
-
-  -- a task is parked
-  pub passes_park : (t : ℕ) → h.idle t ≡ false → On (λ s. park s t)
-  unfolding park
-  passes_park t out s is = single s (put_parked s.world t) (put_parked (omit h s.world) t) _ _ (hides_parked h t out s.world) refl is
-
-  -- one that leaves its queue
-  passes_park_from : (t : ℕ) (s : State) → s.policy ≡ p → is_idle_of h.idle s.world t ≡ false → Passes (park (with_world s (after_leave s.world t)) t) (park (with_world (omit_state h s) (after_leave (omit h s.world) t)) t)
-  unfolding park
-  passes_park_from t s is busy = single s (put_parked (after_leave s.world t) t) (put_parked (after_leave (omit h s.world) t) t) _ _ (hides_parked_from h t s.world busy) refl is
-
-  front_same : (o : Option ℕ) (w : WorldState) → if_throttled w o ≡ if_throttled (omit h w) o
-  front_same None w = refl
-  front_same (Some t) w = ap (λ (b : Bool). cond b (Some t) None) (throttled_same h w t)
-
-  passes_park_then : (next : State → Stepped) → On next → (o : Option ℕ) (s : State) → s.policy ≡ p → ((t : ℕ) → o ≡ Some t → is_idle_of h.idle s.world t ≡ false) → Passes (park_then next s o) (park_then next (omit_state h s) o)
-  passes_park_then next more None s is busy = rests s is
-  passes_park_then next more (Some t) s is busy =
-      chain (park (with_world s (after_leave s.world t)) t) (park (with_world (omit_state h s) (after_leave (omit h s.world) t)) t) next (passes_park_from t s is (busy t refl)) more
-
-  throttled_is : (w : WorldState) (o : Option ℕ) (t : ℕ) → if_throttled w o ≡ Some t → o ≡ Some t
-  throttled_is w None t e = absurd (cc)
-  throttled_is w (Some u) t e = go (is_throttled w u) e
-    where
-      go : (b : Bool) → cond b (Some u) None ≡ Some t → Some u ≡ Some t
-      go true is = is
-      go false is = absurd (cc)
-
-  -- of a task, if it is throttled
-  passes_if_throttled : (next : State → Stepped) → On next → (o : Option ℕ) (s : State) → s.policy ≡ p → ((t : ℕ) → o ≡ Some t → is_idle_of h.idle s.world t ≡ false) → Passes (park_then next s (if_throttled s.world o)) (park_then next (omit_state h s) (if_throttled (omit h s.world) o))
-  passes_if_throttled next more o s is busy =
-      subst (λ (x : Option ℕ). Passes (park_then next s (if_throttled s.world o)) (park_then next (omit_state h s) x)) (front_same o s.world)
-      (passes_park_then next more (if_throttled s.world o) s is (λ t e. busy t (throttled_is s.world o t e)))
-
-  -- of the front of a queue of tasks that aren't held, if it is throttled
-  passes_front : (next : State → Stepped) → On next → (q : ℕ) → (q == held_queue) ≡ false → On (λ s. park_then next s (throttled_front s q))
-  passes_front next more q other s is = passes_if_throttled next more (front_of s.world.queues q) s is (λ t e. queued_busy h.idle s.world t q other (front_in s.world.queues q t e))
-
-  -- the first tasks of such a queue that may run on a processor are parked, as long as they are throttled
-  pub passes_park_next : (n q c : ℕ) → (q == held_queue) ≡ false → On (λ s. park_next n s q c)
-  unfolding park_next
-  passes_park_next zero q c other s is = rests s is
-  passes_park_next (suc n) q c other s is = passes_if_throttled (λ r. park_next n r q c) (passes_park_next n q c other) (next_for s.world q c) s is (λ t e. queued_busy h.idle s.world t q other (next_seen s.world q c t e).there)
-
-  passes_clear : (n c : ℕ) → On (λ s. clear n s c)
-  unfolding clear
-  passes_clear zero c s is = rests s is
-  passes_clear (suc n) c s is =
-      let next : State → Stepped = λ r. clear n r c in
-      chain (fill s global c) (fill (omit_state h s) global c) (λ r. park_then next r (throttled_front r (local_on c))) (passes_fill global c refl s is) (passes_front next (passes_clear n c) (local_on c) (local_other c))
-
-  -- a local queue is supplied
-  pub passes_supply : (c : ℕ) → On (λ s. supply s c)
-  unfolding supply
-  passes_supply c s is = passes_clear (in_reach s c) c s is

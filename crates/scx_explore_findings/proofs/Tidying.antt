@@ -34,8 +34,8 @@ use Rattle.scx_sched_world.specs.declared.faults.Fault.{Fault}
 use Rattle.scx_sched_world.specs.declared.passing.Passing.{Passing}
 use Rattle.scx_sched_world.specs.CpuSets.{and_cpu, but_cpu}
 use Rattle.scx_sched_world.specs.Ids.{parked_queue, local_on}
-use Rattle.scx_sched_world.specs.World.{WorldState, are_linux, is_by_linux, nothing_passes, with_queues, with_kick, switch_at, with_cycling, task_at, with_task, waits, running, is_this, choice, after_claim, at_callback}
-use Rattle.scx_sched_world.specs.Tasks.{with_since, with_slice, with_home, on_cpu, after_sleep, after_leave, homed, local_cpu, homed_at, after_local, after_preempt_of, after_preempt_at, after_preempt, given_slice, given_vtime, task_after_insert, rank_by, after_enter, for_cpu, to_front, brought, started_at, after_run, with_new_slice, after_keep, put_parked, used_ms}
+use Rattle.scx_sched_world.specs.World.{WorldState, are_linux, is_by_linux, nothing_passes, with_queues, switch_at, with_cycling, task_at, with_task, waits, running, choice, after_claim, at_callback}
+use Rattle.scx_sched_world.specs.Tasks.{with_since, with_slice, with_home, on_cpu, after_sleep, after_leave, homed, after_local, given_slice, given_vtime, task_after_insert, after_enter, for_cpu, to_front, brought, started_at, after_run, with_new_slice, after_keep, put_parked, used_ms}
 use Rattle.scx_sched_world.specs.Ejecting.{put_builtin, put_out, after_evictions, cut_task, after_cut}
 use Rattle.scx_sched_world.specs.Helpers.{is_dispatch, with_insert, after_release, insert_or_fault, moved_to_local, helper_after, stored_in, world_functions}
 use Rattle.scx_sched_machine.specs.Callbacks.{call_ending, after_callback, cause_of, acting, call_back, task_and_number}
@@ -51,6 +51,7 @@ use Rattle.scx_explore_findings.proofs.Helpers.{by_helper}
 use Rattle.scx_explore_states.proofs.Queries.{IsAllowed, stores_allowed, asks_allowed, run_keeps}
 use Rattle.scx_explore_findings.proofs.EventWalk.{IsWeighing, IsPolicy, IsKeptByAll, eject_policy, call_back_policy, put_policy, settled_policy, walk_one}
 use Rattle.scx_explore_findings.specs.WholeForms.{IsSince, AreSince, IsTidy}
+use Rattle.scx_explore_findings.proofs.Entering.{KeepsHomes, kept_entered, kept_homed}
 
 -- ---- records of tasks
 
@@ -111,30 +112,14 @@ module _ (v : Hierarchy) where
   pub tidy_task : (w : WorldState) (t : ℕ) (x : Task) → Tidy w → IsSince w.clock x.since → Tidy (with_task w t x)
   tidy_task w t x h i = (since_set w.clock w.tasks t x h.0 i, h.1)
 
+  tidy_homes : KeepsHomes Tidy
+  tidy_homes = record { home = λ w t c h. tidy_task w t (with_home (task_at w t) c) h (h.0 t); preempted = λ w t c h. tidy_task w t (with_slice (task_at w t) 0) h (h.0 t) }
+
   tidy_homed : (w : WorldState) (t c : ℕ) → Tidy w → Tidy (homed w t c)
-  tidy_homed w t c h = keeps_if Tidy (is_by_linux w) (with_task w t (with_home (task_at w t) c)) w (tidy_task w t (with_home (task_at w t) c) h (h.0 t)) h
-
-  tidy_homed_at : (w : WorldState) (t : ℕ) (o : Option ℕ) → Tidy w → Tidy (homed_at w t o)
-  tidy_homed_at w t None h = h
-  tidy_homed_at w t (Some c) h = tidy_homed w t c h
-
-  tidy_preempt_of : (w : WorldState) (c : ℕ) (o : Option ℕ) → Tidy w → Tidy (after_preempt_of w c o)
-  tidy_preempt_of w c None h = h
-  tidy_preempt_of w c (Some t) h = keeps_if Tidy (is_this c w.cycling) w (with_kick (with_task w t (with_slice (task_at w t) 0)) c) h (tidy_task w t (with_slice (task_at w t) 0) h (h.0 t))
-
-  tidy_preempt_at : (w : WorldState) (o : Option ℕ) → Tidy w → Tidy (after_preempt_at w o)
-  tidy_preempt_at w None h = h
-  tidy_preempt_at w (Some c) h = tidy_preempt_of w c (running w c) h
-
-  tidy_preempt : (w : WorldState) (i : Insert) → Tidy w → Tidy (after_preempt w i)
-  tidy_preempt w i h = keeps_if Tidy i.preempts (after_preempt_at w (local_cpu w i.queue)) w (tidy_preempt_at w (local_cpu w i.queue) h) h
+  tidy_homed = kept_homed Tidy tidy_homes
 
   tidy_entered : (w : WorldState) (t : ℕ) (i : Insert) → Tidy w → Tidy (after_enter w t i)
-  tidy_entered w t i h =
-      let x = task_after_insert (task_at w t) i in
-      let given = with_queues (with_task w t x) (after_push w.queues i.queue t (rank_by w i.rank)) in
-      let home = homed_at given t (local_cpu w i.queue) in
-      keeps_if Tidy (nat_lt t (length w.tasks)) (after_preempt home i) w (tidy_preempt home i (tidy_homed_at given t (local_cpu w i.queue) (tidy_task w t x h (insert_since w.clock (task_at w t) i (h.0 t))))) h
+  tidy_entered w t i h = kept_entered Tidy tidy_homes w t i h (tidy_task w t (task_after_insert (task_at w t) i) h (insert_since w.clock (task_at w t) i (h.0 t)))
 
   tidy_local : (w : WorldState) (c t : ℕ) → Tidy w → Tidy (after_local w c t)
   tidy_local w c t h = tidy_homed (with_queues w (after_push w.queues (local_on c) t Fifo)) t c h

@@ -6,7 +6,9 @@ use Rattle.scx_weights.specs.Limits.{has_quota, usage_of, for_each_group, begins
 use Rattle.scx_sched_machine.specs.Steps.{State}
 use Rattle.scx_sched.specs.Sim.{SimState}
 use Rattle.scx_explore_findings.specs.Delayed.{IsSteady}
-use Rattle.scx_explore_findings.specs.UnreadParts.{AreAsStates}
+use Rattle.scx_explore_findings.specs.UnreadParts.{Parts, AreAlike, AreAsStates, parts_of}
+use Rattle.scx_isa_semantics.specs.declared.rules.Rules.{Rules}
+use Rattle.scx_weights.specs.declared.group.Group.{Group}
 
 -- nothing used, for as many groups
 abbrev pub none_used : List ℕ → List ℕ
@@ -40,29 +42,21 @@ unused_is_steady s n m =
 no_so : (b : Bool) → b ≡ true → b ≡ false → ⊥
 no_so b x y = absurd (cc)
 
--- where no group has a quota, what is the same but for unread parts stays so
+-- where no group has a quota, usages may be any
+any_usages : (b : Bool) (r : Rules) (gs : List Group) (p q : Parts) (us vs : List ℕ) → has_quota gs ≡ false → AreAlike b r gs p q → AreAlike b r gs (record p { usages = us }) (record q { usages = vs })
+any_usages b r gs p q us vs free m = record { queues = m.queues; call = m.call; kicked = m.kicked; preempted = m.preempted; usages = λ e. absurd (no_so (has_quota gs) e free) }
+
+-- so what is the same but for unread parts stays so
 pub unused_there : (s z : State) → has_quota s.world.tree.groups ≡ false → AreAsStates false s z → AreAsStates false s (unused_state z)
 unused_there s z free same = record {
-  parts = record {
-    queues = same.parts.queues;
-    call = same.parts.call;
-    kicked = same.parts.kicked;
-    preempted = same.parts.preempted;
-    usages = λ e. absurd (no_so (has_quota s.world.tree.groups) e free);
-  };
+  parts = any_usages false s.world.rules s.world.tree.groups (parts_of s.world) (parts_of z.world) s.world.tree.usages (none_used z.world.tree.usages) free same.parts;
   rest = ap unused_state same.rest;
 }
 
 -- and from the other side
 pub unused_here : (s z : State) → has_quota s.world.tree.groups ≡ false → AreAsStates false s z → AreAsStates false (unused_state s) z
 unused_here s z free same = record {
-  parts = record {
-    queues = same.parts.queues;
-    call = same.parts.call;
-    kicked = same.parts.kicked;
-    preempted = same.parts.preempted;
-    usages = λ e. absurd (no_so (has_quota s.world.tree.groups) e free);
-  };
+  parts = any_usages false s.world.rules s.world.tree.groups (parts_of s.world) (parts_of z.world) (none_used s.world.tree.usages) z.world.tree.usages free same.parts;
   rest = same.rest;
 }
 

@@ -20,14 +20,15 @@ use Rattle.scx_sched_tasks.specs.declared.task.Task.{Task}
 use Rattle.scx_sched_world.specs.declared.call.Insert.{Insert}
 use Rattle.scx_sched_world.specs.declared.faults.Fault.{Fault}
 use Rattle.scx_sched_world.specs.Ids.{builtin_queue, parked_queue, local_on}
-use Rattle.scx_sched_world.specs.World.{WorldState, IsLike, with_queues, with_tree, is_by_linux, with_kick, task_at, with_task, with_cpu, waits, running, is_this, choice, after_claim}
-use Rattle.scx_sched_world.specs.Tasks.{with_since, with_slice, with_home, on_cpu, after_sleep, after_leave, homed, local_cpu, homed_at, after_local, after_preempt_of, after_preempt_at, after_preempt, task_after_insert, rank_by, after_enter, for_cpu, brought, after_stop, started_at, after_run, after_keep, put_parked, used_ms, after_reweigh, after_own_weight}
+use Rattle.scx_sched_world.specs.World.{WorldState, IsLike, with_queues, with_tree, is_by_linux, task_at, with_task, with_cpu, waits, running, choice, after_claim}
+use Rattle.scx_sched_world.specs.Tasks.{with_since, with_slice, with_home, on_cpu, after_sleep, after_leave, homed, after_local, task_after_insert, rank_by, after_enter, for_cpu, brought, after_stop, started_at, after_run, after_keep, put_parked, used_ms, after_reweigh, after_own_weight}
 use Rattle.scx_sched_world.specs.Ejecting.{put_builtin, after_evictions, cut_task, after_cut}
 use Rattle.scx_sched_world.specs.Helpers.{is_dispatch, with_insert, after_release, insert_or_fault, moved_to_local, helper_after, world_functions}
 use Rattle.scx_sched_machine.specs.Events.{inserted_by_choice, chosen_by_default}
 use Rattle.scx_sched_machine.proofs.Choices.{keeps_if}
 use Rattle.scx_explore_findings.proofs.Helpers.{by_helper}
 use Rattle.scx_explore_states.proofs.Queries.{IsAllowed}
+use Rattle.scx_explore_findings.proofs.Entering.{KeepsHomes, kept_entered, kept_homed}
 
 -- both worlds have the same queues, room for as many, and as many tasks, processors, groups and timers
 abbrev pub HasSize : WorldState → WorldState → Type 0
@@ -85,36 +86,15 @@ module _ (v : WorldState) where
   sized_put w t x q r h = sized_queues (with_task w t x) (after_push w.queues q t r) (queues_pushed w.queues q t r (queues_of w h)) (sized_task w t x h)
 
   -- a task whose processor is another one
+  sized_homes : KeepsHomes (HasSize v)
+  sized_homes = record { home = λ w t c h. sized_task w t (with_home (task_at w t) c) h; preempted = λ w t c h. sized_task w t (with_slice (task_at w t) 0) h }
+
   pub sized_homed : (w : WorldState) (t c : ℕ) → HasSize v w → HasSize v (homed w t c)
-  sized_homed w t c h = keeps_if (HasSize v) (is_by_linux w) (with_task w t (with_home (task_at w t) c)) w (sized_task w t _ h) h
-
-  sized_homed_at : (w : WorldState) (t : ℕ) (o : Option ℕ) → HasSize v w → HasSize v (homed_at w t o)
-  sized_homed_at w t None h = h
-  sized_homed_at w t (Some c) h = sized_homed w t c h
-
-  sized_preempt_of : (w : WorldState) (c : ℕ) (o : Option ℕ) → HasSize v w → HasSize v (after_preempt_of w c o)
-  sized_preempt_of w c None h = h
-  sized_preempt_of w c (Some t) h = keeps_if (HasSize v) (is_this c w.cycling) w (with_kick (with_task w t (with_slice (task_at w t) 0)) c) h (sized_task w t _ h)
-
-  sized_preempt_at : (w : WorldState) (o : Option ℕ) → HasSize v w → HasSize v (after_preempt_at w o)
-  sized_preempt_at w None h = h
-  sized_preempt_at w (Some c) h = sized_preempt_of w c (running w c) h
-
-  sized_preempt : (w : WorldState) (i : Insert) → HasSize v w → HasSize v (after_preempt w i)
-  sized_preempt w i h = keeps_if (HasSize v) i.preempts (after_preempt_at w (local_cpu w i.queue)) w (sized_preempt_at w (local_cpu w i.queue) h) h
+  sized_homed = kept_homed (HasSize v) sized_homes
 
   -- a task that goes into a queue
   pub sized_entered : (w : WorldState) (t : ℕ) (i : Insert) → HasSize v w → HasSize v (after_enter w t i)
-  sized_entered w t i h = keeps_if (HasSize v) (nat_lt t (length w.tasks)) (after_preempt home i) w (sized_preempt home i (sized_homed_at given t at (sized_put w t (task_after_insert (task_at w t) i) i.queue (rank_by w i.rank) h))) h
-    where
-      given : WorldState
-      given = with_queues (with_task w t (task_after_insert (task_at w t) i)) (after_push w.queues i.queue t (rank_by w i.rank))
-
-      at : Option ℕ
-      at = local_cpu w i.queue
-
-      home : WorldState
-      home = homed_at given t at
+  sized_entered w t i h = kept_entered (HasSize v) sized_homes w t i h (sized_put w t (task_after_insert (task_at w t) i) i.queue (rank_by w i.rank) h)
 
   -- a task that comes to the end of a local queue
   sized_local : (w : WorldState) (c t : ℕ) → HasSize v w → HasSize v (after_local w c t)
