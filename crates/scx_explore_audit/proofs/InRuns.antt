@@ -3,29 +3,41 @@ use Rattle.std.proofs.Common.{◌≡◌, ℕ, zero, suc, ◌<◌, ◌||◌, ◌&
 use Rattle.std.specs.List.{AllByRecursion}
 use Rattle.scx_isa_semantics.specs.declared.callbacks.Callback.{Callback}
 use Rattle.scx_isa_semantics.specs.declared.callbacks.Callback.TheVariants as callback
-use Rattle.scx_isa_semantics.specs.declared.host_tables.Field.TheVariants.{DsqVtime, RunNs}
+use Rattle.scx_isa_semantics.specs.declared.host_tables.Field.{Field}
+use Rattle.scx_isa_semantics.specs.declared.host_tables.Field.TheVariants.{Slice, DsqVtime, RunNs}
+use Rattle.scx_isa_semantics.specs.declared.instructions.Insn.{Insn}
+use Rattle.scx_isa_semantics.specs.declared.instructions.Insn.TheVariants as insn
 use Rattle.scx_isa_semantics.specs.declared.rules.Rules.{Rules}
 use Rattle.scx_isa_semantics.specs.Callbacks.{at, callbacks}
+use Rattle.scx_isa_semantics.specs.Arithmetic.{at_distance}
+use Rattle.scx_isa_semantics.specs.Code as codes
 use Rattle.scx_isa_semantics.specs.Code.{Code}
 use Rattle.scx_isa_semantics.specs.Effects.{Query, Call, Load, Store}
+use Rattle.scx_isa_semantics.specs.HostTables.{field_at}
+use Rattle.scx_isa_semantics.specs.Memory.{access_size, size_bytes}
 use Rattle.scx_isa.specs.Spelling.{IsProgram}
 use Rattle.scx_maps.specs.declared.shape.Shape.{Shape}
 use Rattle.scx_vm.specs.declared.context.Context.{Context}
 use Rattle.scx_vm.specs.Programs.{VerifiedProgram}
 use Rattle.scx_verify.specs.Typing.{IsTyped}
 use Rattle.scx_sched_policy.specs.Policy.{PolicyState, program_of}
-use Rattle.scx_sched_world.specs.World.{are_linux}
+use Rattle.scx_sched_world.specs.World.{WorldState, are_linux}
 use Rattle.scx_load_policies.specs.Building.{IsBuilt, IsIn, IsAccepted, code_of, context_of}
 use Rattle.scx_load_policies.specs.Policies.{PolicyFile, Programs}
+use Rattle.scx_weights.specs.Limits.{has_quota}
 use Rattle.scx_explore_states.specs.Asking.{LoadsNo, GivesOne, is_early}
-use Rattle.scx_explore_findings.specs.Asked.{IfAsksOnly, AskOnly}
+use Rattle.scx_explore_states.specs.Written.{needs_slices}
+use Rattle.scx_explore_findings.specs.Asked.{IfAsksOnly, AskOnly, IfAsksAnyhow}
+use Rattle.scx_explore_findings.specs.Counted.{is_counted, LoadsNoCount}
 use Rattle.scx_explore_findings.specs.IdleSlices.{LoadsItsOwn, IfLoadsItsOwn, TellNoIdleSlices}
-use Rattle.scx_explore_findings.specs.Unread.{ReadsNone}
+use Rattle.scx_explore_findings.specs.Unread.{is_some_field, loads_some, ReadsNone}
+use Rattle.scx_explore_findings.proofs.CountedRuns.{such_programs_load_no_count}
 use Rattle.scx_explore_bounds.specs.declared.uses.Uses.{Uses}
 use Rattle.scx_explore_bounds.specs.Forms.{tells_idle_slices, form_of, no_uses, DoesAs, DoAll}
 use Rattle.scx_explore_bounds.specs.Told.{DoesNoMore, IfDoesNoMore}
-use Rattle.scx_explore_bounds.proofs.Done.{uses_tell_runs}
-use Rattle.scx_explore_audit.specs.Computed.{IfNoMore, DoNoMore, left_out_by, ComputedFormsAreWholeInRuns}
+use Rattle.scx_explore_bounds.specs.Uses.{is_field, is_any_load}
+use Rattle.scx_explore_bounds.proofs.Done.{left_none, right_none, uses_tell_runs}
+use Rattle.scx_explore_audit.specs.Computed.{IfNoMore, DoNoMore, left_out_by, ComputedFormsAreWholeInRuns, ProgramsLoadNoCount}
 use Rattle.scx_explore_audit.proofs.Computed.{apart, computed_by}
 use Rattle.scx_explore_audit.proofs.PlainCalls.{plain_runs_ask_for_none}
 
@@ -127,17 +139,9 @@ unread u waits b None d = tt
 unread u waits b (Some q) d = λ is args maps steps slot m shaped fits leads query next on asks.
     reads_none u waits query (λ e. d.run_ns e args maps steps slot m shaped fits leads query next on asks) (λ e. d.vtime e args maps steps slot m shaped fits leads query next on asks)
 
-none_right : (a b : Bool) → a ≡ true → (a && b) ≡ false → b ≡ false
+pub none_right : (a b : Bool) → a ≡ true → (a && b) ≡ false → b ≡ false
 none_right true b e k = k
 none_right false b e k = absurd (apart e)
-
-first_none : (a b : Bool) → (a || b) ≡ false → a ≡ false
-first_none false b e = refl
-first_none true b e = e
-
-second_none : (a b : Bool) → (a || b) ≡ false → b ≡ false
-second_none false b e = e
-second_none true b e = absurd (apart (sym e))
 
 gives : (u : Uses) (b : Callback) → u.empty_slice ≡ false → (o : Option VerifiedProgram) → IfNoMore u o → IfAsksOnly GivesOne b o
 gives u b given None d = tt
@@ -152,11 +156,11 @@ record TellsNoneIdle (file : PolicyFile) (u : Uses) : Type 0 where
 
 tells_none_idle : (file : PolicyFile) (u : Uses) → (are_linux file.rules ≡ true → u.slice ≡ true → tells_idle_slices u ≡ true) → tells_idle_slices u ≡ false → TellsNoneIdle file u
 tells_none_idle file u kept none =
-    let rest = second_none u.empty_slice (u.early_slice || (u.slice && u.task_by_pid)) none in
+    let rest = right_none u.empty_slice (u.early_slice || (u.slice && u.task_by_pid)) none in
     record {
-      given = first_none u.empty_slice (u.early_slice || (u.slice && u.task_by_pid)) none;
-      early = first_none u.early_slice (u.slice && u.task_by_pid) rest;
-      others = λ loads. none_right u.slice u.task_by_pid loads (second_none u.early_slice (u.slice && u.task_by_pid) rest);
+      given = left_none u.empty_slice (u.early_slice || (u.slice && u.task_by_pid)) none;
+      early = left_none u.early_slice (u.slice && u.task_by_pid) rest;
+      others = λ loads. none_right u.slice u.task_by_pid loads (right_none u.early_slice (u.slice && u.task_by_pid) rest);
       plain = λ loads. go (are_linux file.rules) refl loads;
     }
   where
@@ -183,3 +187,29 @@ computed_forms_are_whole_in_runs file p u waits words built done exact kept =
       given = λ b. gives u b tells.given (program_of p b) (none b);
       loads = λ b. loads_own file u b tells (program_of p b) (none b) (all_pass file p u built done b);
     })
+
+-- ---- slices and run times
+
+-- a world whose states need no slices has no quota
+pub has_no_quota : (w : WorldState) → needs_slices w ≡ false → has_quota w.tree.groups ≡ false
+has_no_quota w = right_none (are_linux w.rules) (has_quota w.tree.groups)
+
+-- a field at neither offset isn't one that ticks count
+no_count : (o : Option Field) → is_field Slice o ≡ false → is_field RunNs o ≡ false → is_some_field is_counted o ≡ false
+no_count None slice run_ns = refl
+no_count (Some Slice) slice run_ns = absurd (apart (sym slice))
+no_count (Some RunNs) slice run_ns = absurd (apart (sym run_ns))
+no_count (Some f) slice run_ns = refl
+
+-- so no such instruction loads one
+none_counted : (o : Option Insn) → is_any_load Slice o ≡ false → is_any_load RunNs o ≡ false → loads_some is_counted o ≡ false
+none_counted None slice run_ns = refl
+none_counted (Some (insn.Load a d b offset)) slice run_ns = no_count (field_at (size_bytes (access_size a)) (at_distance 0 offset)) slice run_ns
+none_counted (Some i) slice run_ns = refl
+
+pub programs_load_no_count : ProgramsLoadNoCount
+programs_load_no_count file p u built done none b = go (program_of p b) (do_no_more file p u built done b)
+  where
+    go : (o : Option VerifiedProgram) → IfNoMore u o → IfAsksAnyhow LoadsNoCount b o
+    go None d = tt
+    go (Some q) d = such_programs_load_no_count b q.code (λ slot. none_counted (codes.at q.code slot) ((d.has_count_load none).0 slot) ((d.has_count_load none).1 slot))

@@ -10,6 +10,8 @@ use Rattle.scx_sched_world.specs.World.{are_linux}
 use Rattle.scx_sched_policy.specs.Policy.{PolicyState, program_of}
 use Rattle.scx_explore_states.specs.declared.form.Form.{Form}
 use Rattle.scx_explore_states.specs.declared.map_words.MapWords.{MapWords}
+use Rattle.scx_explore_findings.specs.Asked.{AskAnyhow}
+use Rattle.scx_explore_findings.specs.Counted.{LoadsNoCount}
 use Rattle.scx_explore_findings.specs.Hidden.{Hidden}
 use Rattle.scx_explore_findings.specs.HiddenMachines.{AreUnread}
 use Rattle.scx_explore_findings.specs.IdleSlices.{TellNoSlices}
@@ -54,3 +56,13 @@ ComputedFormsAreWholeInRuns =
     → p.tick_ms ≡ 0
     → (are_linux file.rules ≡ true → u.slice ≡ true → tells_idle_slices u ≡ true)
     → IsWholeInRuns p (record (form_of u waits) { map_words = words })
+
+-- no program of the policy of a file loads a slice or a run time, whatever it is given and
+-- answered, if none has a load at such an offset
+abbrev pub ProgramsLoadNoCount : Type 0
+ProgramsLoadNoCount =
+    (file : PolicyFile) (p : PolicyState) (u : Uses)
+    → IsBuilt file p
+    → DoAll file.rules file.shapes file.programs callbacks no_uses u
+    → u.has_count_load ≡ false
+    → AskAnyhow LoadsNoCount p

@@ -1,4 +1,4 @@
-ghost use Rattle.scx_explore_audit.specs.Computed.{ComputedFormsAreWhole, ComputedFormsAreWholeInRuns};
+ghost use Rattle.scx_explore_audit.specs.Computed.{ComputedFormsAreWhole, ComputedFormsAreWholeInRuns, ProgramsLoadNoCount};
 ghost use Rattle.scx_explore_audit.specs.Laws.{ClosedTablesCover, ListsAreOfEvents, MatchedMovesAreFollowed, RefusedEventsShowNothing};
 ghost use Rattle.scx_explore_audit.specs.Rows.{UnreadPartsAreRespected};
 ghost use Rattle.scx_explore_audit.specs.Whole.{FormsWholeInRunsAreFollowed, FormsWholeInRunsAreRespected, WholeFormsAreRespected};
@@ -169,9 +169,11 @@ pub fn counts_change_nothing()
 /// The form that a search computes keeps what programs can tell by their calls, where it tells tasks apart. It keeps all that
 /// they can read if slices end exactly, and no program asks for what it leaves out of the records of tasks, or tells a slice
 /// where it leaves slices out. Of a policy that is built of a file nothing of that is presumed: the form keeps all that its
-/// programs can read in each run that fits, as long as no program loads a slice where it leaves slices out. The function does
-/// nothing: its contract is the law.
+/// programs can read in each run that fits, as long as no program loads a slice where it leaves slices out. And if none has a
+/// load at the offset of a slice or a run time, none loads one, whatever it is given and answered. The function does nothing:
+/// its contract is the law.
 pub fn computed_forms_are_whole()
     ensures anyhow { ComputedFormsAreWhole }
     ensures runs { ComputedFormsAreWholeInRuns }
+    ensures counts { ProgramsLoadNoCount }
 {}

@@ -20,14 +20,14 @@ use Rattle.scx_explore_bounds.specs.declared.uses.Use.TheVariants as such
 use Rattle.scx_explore_bounds.specs.declared.uses.Uses.{Uses}
 use Rattle.scx_explore_bounds.specs.Forms.{no_uses, DoesAs, DoAll}
 use Rattle.scx_explore_bounds.specs.Told.{DoesNoMore, IfDoesNoMore, UsesTellRuns}
-use Rattle.scx_explore_bounds.specs.Uses.{has, with_listing}
-use Rattle.scx_explore_bounds.proofs.Told.{listings_tell_loads, listings_tell_inserts, listings_tell_calls}
+use Rattle.scx_explore_bounds.specs.Uses.{has, has_count_load, with_listing}
+use Rattle.scx_explore_bounds.proofs.Told.{listings_tell_loads, listings_tell_inserts, listings_tell_calls, listings_tell_any_loads}
 
-left_none : (a b : Bool) → (a || b) ≡ false → a ≡ false
+pub left_none : (a b : Bool) → (a || b) ≡ false → a ≡ false
 left_none false b e = refl
 left_none true b e = e
 
-right_none : (a b : Bool) → (a || b) ≡ false → b ≡ false
+pub right_none : (a b : Bool) → (a || b) ≡ false → b ≡ false
 right_none false b e = e
 right_none true b e = absurd (cc)
 
@@ -54,6 +54,9 @@ record IsMore (u v : Uses) : Type 0 where
   slice : v.slice ≡ false → u.slice ≡ false
   early_slice : v.early_slice ≡ false → u.early_slice ≡ false
   empty_slice : v.empty_slice ≡ false → u.empty_slice ≡ false
+  has_count_load :
+      v.has_count_load ≡ false
+      → u.has_count_load ≡ false
 
 no_more : (u v : Uses) (c : Context) (code : Code) → IsMore u v → DoesNoMore u c code → DoesNoMore v c code
 no_more u v c code more d = record {
@@ -68,6 +71,7 @@ no_more u v c code more d = record {
   slice = λ e. d.slice (more.slice e);
   early_slice = λ e. d.early_slice (more.early_slice e);
   empty_slice = λ e. d.empty_slice (more.empty_slice e);
+  has_count_load = λ e. d.has_count_load (more.has_count_load e);
 }
 
 module _ (u : Uses) (c : Context) (l : Listing) where
@@ -87,15 +91,16 @@ module _ (u : Uses) (c : Context) (l : Listing) where
     slice = left_none u.slice (has l (such.Load field.Slice));
     early_slice = left_none u.early_slice (is_early c.callback (has l (such.Load field.Slice)));
     empty_slice = left_none u.empty_slice (has l such.EmptySlice);
+    has_count_load = left_none u.has_count_load (has_count_load l);
   }
 
   -- what its listing shows
   shown_after : (code : Code) → IsListing c code l → IsProgram code → IsTyped c code → DoesNoMore after c code
   shown_after code listing program typed = record {
-    clock = λ e. listings_tell_calls c code l helper.KtimeGetNs listing (right_none u.clock (has l (such.Call helper.KtimeGetNs)) e);
-    random = λ e. listings_tell_calls c code l helper.PrandomU32 listing (right_none u.random (has l (such.Call helper.PrandomU32)) e);
-    task_by_pid = λ e. listings_tell_calls c code l helper.TaskByPid listing (right_none u.task_by_pid (has l (such.Call helper.TaskByPid)) e);
-    vtime_inserts = λ e. listings_tell_calls c code l helper.DsqInsertVtime listing (right_none u.vtime_inserts (has l (such.Call helper.DsqInsertVtime)) e);
+    clock = λ e. listings_tell_calls helper.KtimeGetNs c code l listing (right_none u.clock (has l (such.Call helper.KtimeGetNs)) e);
+    random = λ e. listings_tell_calls helper.PrandomU32 c code l listing (right_none u.random (has l (such.Call helper.PrandomU32)) e);
+    task_by_pid = λ e. listings_tell_calls helper.TaskByPid c code l listing (right_none u.task_by_pid (has l (such.Call helper.TaskByPid)) e);
+    vtime_inserts = λ e. listings_tell_calls helper.DsqInsertVtime c code l listing (right_none u.vtime_inserts (has l (such.Call helper.DsqInsertVtime)) e);
     pid = λ e. listings_tell_loads c code l field.Pid program typed listing (right_none u.pid (has l (such.Load field.Pid)) e);
     weight = λ e. listings_tell_loads c code l field.Weight program typed listing (right_none u.weight (has l (such.Load field.Weight)) e);
     vtime = λ e. listings_tell_loads c code l field.DsqVtime program typed listing (right_none u.vtime (has l (such.Load field.DsqVtime)) e);
@@ -103,6 +108,11 @@ module _ (u : Uses) (c : Context) (l : Listing) where
     slice = λ e. listings_tell_loads c code l field.Slice program typed listing (right_none u.slice (has l (such.Load field.Slice)) e);
     early_slice = λ e early. listings_tell_loads c code l field.Slice program typed listing (early_none c.callback (has l (such.Load field.Slice)) early (right_none u.early_slice (is_early c.callback (has l (such.Load field.Slice))) e));
     empty_slice = λ e. listings_tell_inserts c code l program typed listing (right_none u.empty_slice (has l such.EmptySlice) e);
+    has_count_load = λ e.
+        let none = right_none u.has_count_load (has_count_load l) e in (
+          listings_tell_any_loads field.Slice c code l listing (left_none (has l (such.AnyLoad field.Slice)) (has l (such.AnyLoad field.RunNs)) none),
+          listings_tell_any_loads field.RunNs c code l listing (right_none (has l (such.AnyLoad field.Slice)) (has l (such.AnyLoad field.RunNs)) none),
+        );
   }
 
 -- ---- programs, one after another
@@ -124,6 +134,7 @@ module _ (r : Rules) (shapes : List Shape) (p : Programs) where
     slice = λ e. e;
     early_slice = λ e. e;
     empty_slice = λ e. e;
+    has_count_load = λ e. e;
   }
 
   both_more : (u v w : Uses) → IsMore u v → IsMore v w → IsMore u w
@@ -139,6 +150,7 @@ module _ (r : Rules) (shapes : List Shape) (p : Programs) where
     slice = λ e. x.slice (y.slice e);
     early_slice = λ e. x.early_slice (y.early_slice e);
     empty_slice = λ e. x.empty_slice (y.empty_slice e);
+    has_count_load = λ e. x.has_count_load (y.has_count_load e);
   }
 
   more_one : (b : Callback) (o : Option Code) (u v : Uses) → DoesAs r shapes b o u v → IsMore u v

@@ -17,7 +17,7 @@ use Rattle.scx_isa_semantics.specs.Arguments.{FitsCallback}
 use Rattle.scx_isa_semantics.specs.Arithmetic.{at_distance}
 use Rattle.scx_isa_semantics.specs.Calls.{arguments}
 use Rattle.scx_isa_semantics.specs.Code.{Code, at}
-use Rattle.scx_isa_semantics.specs.Effects.{Query, Call, Load, Store}
+use Rattle.scx_isa_semantics.specs.Effects.{Query, Call, Store}
 use Rattle.scx_isa_semantics.specs.Elements.{Maps}
 use Rattle.scx_isa_semantics.specs.HostTables.{field_at, helper_at}
 use Rattle.scx_isa_semantics.specs.Machine.{Machine, Arguments, start}
@@ -53,8 +53,8 @@ use Rattle.scx_explore_states.specs.Asking.{LoadsNo, GivesOne, AsksOnly}
 use Rattle.scx_explore_states.proofs.Queries.{StepsOpen, MayAskIn, MayAskThere, of_step_in}
 use Rattle.scx_explore_bounds.specs.declared.uses.Use.{Use}
 use Rattle.scx_explore_bounds.specs.declared.uses.Use.TheVariants as such
-use Rattle.scx_explore_bounds.specs.Uses.{any_below, is_use, is_task, is_of_task, is_field, is_call, is_insert, may_be_0, gives_none, has}
-use Rattle.scx_explore_bounds.specs.Told.{ListingsTellLoads, ListingsTellInserts, ListingsTellCalls}
+use Rattle.scx_explore_bounds.specs.Uses.{any_below, is_use, is_task, is_of_task, is_field, is_any_load, is_call, is_insert, may_be_0, gives_none, has}
+use Rattle.scx_explore_bounds.specs.Told.{ListingsTellLoads, ListingsTellInserts, ListingsTell, ListingsTellCalls, ListingsTellAnyLoads}
 use Rattle.scx_explore_bounds.proofs.Slots.{any_below_at}
 
 not_both : (b : Bool) → b ≡ true → b ≡ false → ⊥
@@ -200,11 +200,18 @@ listings_tell_inserts c code l program typed listing none = asks_only GivesOne (
         go h is = tt
     inserts i a m next free passes stands = tt
 
--- ---- calls
+-- ---- instructions
+
+-- what a use says of an instruction by itself no instruction of the program is
+by_itself : (u : Use) (is : Option Insn → Bool) → is None ≡ false → ((i : Insn) (s : Option AbsState) → is_use u (Some i) s ≡ is (Some i)) → ListingsTell u is
+by_itself u is none_there same c code l listing none slot = go (at code slot) refl
+  where
+    go : (o : Option Insn) → at code slot ≡ o → is o ≡ false
+    go None e = none_there
+    go (Some i) e = sym (same i (known_at l slot)) ∙ no_use c code l u slot i listing none e
 
 pub listings_tell_calls : ListingsTellCalls
-listings_tell_calls c code l h listing none slot = go (at code slot) refl
-  where
-    go : (o : Option Insn) → at code slot ≡ o → is_call h o ≡ false
-    go None is = refl
-    go (Some i) is = no_use c code l (such.Call h) slot i listing none is
+listings_tell_calls h = by_itself (such.Call h) (is_call h) refl (λ i s. refl)
+
+pub listings_tell_any_loads : ListingsTellAnyLoads
+listings_tell_any_loads f = by_itself (such.AnyLoad f) (is_any_load f) refl (λ i s. refl)

@@ -70,6 +70,12 @@ is_load f (Some (Load a d b o)) s =
     is_of_task b s && is_field f (field_at (size_bytes (access_size a)) (at_distance 0 o))
 is_load f (Some i) s = false
 
+-- a load of the bytes at which that field of a task lies, from any memory
+abbrev pub is_any_load : Field → Option Insn → Bool
+is_any_load f (Some (Load a d b o)) =
+    is_field f (field_at (size_bytes (access_size a)) (at_distance 0 o))
+is_any_load f o = false
+
 -- a call that inserts a task
 abbrev pub is_insert : Option Insn → Bool
 is_insert i = is_call helper.DsqInsert i || is_call helper.DsqInsertVtime i
@@ -89,10 +95,15 @@ abbrev pub is_use : Use → Option Insn → Option AbsState → Bool
 is_use (such.Call h) i s = is_call h i
 is_use (such.Load f) i s = is_load f i s
 is_use such.EmptySlice i s = is_insert i && gives_none s
+is_use (such.AnyLoad f) i s = is_any_load f i
 
 -- the program of a listing has an instruction that is such
 abbrev pub has : Listing → Use → Bool
 has l u = any_below (length l.code.items) (λ s. is_use u (at l.code.items s) (known_at l s))
+
+-- it has a load of the bytes at which a slice or a run time lies, from any memory
+abbrev pub has_count_load : Listing → Bool
+has_count_load l = has l (such.AnyLoad field.Slice) || has l (such.AnyLoad field.RunNs)
 
 -- one of two, or both
 abbrev pub either : Bool → Bool → Bool
@@ -119,6 +130,7 @@ with_listing u c r l = record {
   slice = either u.slice (has l (such.Load field.Slice));
   early_slice = either u.early_slice (is_early c (has l (such.Load field.Slice)));
   empty_slice = either u.empty_slice (has l such.EmptySlice);
+  has_count_load = either u.has_count_load (has_count_load l);
 }
 
 -- the second are the first with what a program does in that context, by what the verifier knows

@@ -1,6 +1,6 @@
 ghost use Rattle.std.specs.Prelude.{◌≡◌, true, nat_lt, IfOk, option_map};
 ghost use Rattle.scx_isa_semantics.specs.Callbacks.{callbacks};
-ghost use Rattle.scx_explore_bounds.specs.Forms.{DoAll, DoesAs, IsFormIn, IsFormOf, form_of, form_within, no_uses, without_names, without_slices};
+ghost use Rattle.scx_explore_bounds.specs.Forms.{DoAll, DoesAs, IsFormIn, IsFormOf, form_of, form_within, are_apart, has_few_tasks, may_load_counts, no_uses, tells_apart, without_names, without_slices};
 
 use crate::bounds::{Bounds, Mode};
 use crate::uses::Uses;
@@ -8,10 +8,14 @@ use scx_explore_states::{Form, MapWords};
 use scx_isa::{CALLBACKS, Callback, Program, Rules};
 use scx_load_policies::{PolicyText, Programs, read_policy};
 use scx_maps::MapDefs;
+use scx_sched::Sim;
 use scx_vm::Context;
 use std::alloc::{AllocError, Global};
 
-/// The form of states in lists within the bounds, under the policy of a text that was read before.
+/// The most tasks that are told apart though no program does so.
+const MOST_APART: u16 = 4;
+
+/// The form of states in lists within the bounds from that machine, under the policy of a text that was read before.
 ///
 /// It leaves out what no program can read: the clock, where none asks for it; from which number random ones are made, where
 /// none draws one; virtual times, run times and weights, where none loads them; and virtual times in queues, where none
@@ -19,17 +23,19 @@ use std::alloc::{AllocError, Global};
 /// Pushes are always left out: they are compared within a queue only, and there places say which task came first.
 ///
 /// Where lists are of events, and no program tells tasks of a group apart, these may change places. In a millisecond
-/// tasks have their turns by number. And where they may, and no program loads a slice or a run time, slices are left out of lists of events:
-/// a machine that needs them has them all the same.
+/// tasks have their turns by number. And where no program loads a slice or a run time, slices are left out of lists of
+/// events, also where tasks are told apart if no program has a load at such an offset. A machine that needs slices has them
+/// all the same. If all lists are searched, at most four tasks are told apart too where slices can be left out so: then all
+/// is kept that programs can tell.
 ///
 /// # Errors
 ///
 /// Memory runs out.
-pub fn form_of(alloc: Global, policy: &str, bounds: Bounds) -> Result<Form, AllocError>
-    ensures { IfOk result (IsFormOf policy.now bounds) }
+pub fn form_of(alloc: Global, policy: &str, bounds: Bounds, first: &Sim) -> Result<Form, AllocError>
+    ensures { IfOk result (IsFormOf policy.now bounds first.now) }
 {
     match read_policy(alloc, policy) {
-        Ok(text) => form_in(alloc, text, bounds),
+        Ok(text) => form_in(alloc, text, bounds, are_apart(bounds, first)),
         Err(error) => {
             drop(error);
             Err(AllocError)
@@ -37,13 +43,30 @@ pub fn form_of(alloc: Global, policy: &str, bounds: Bounds) -> Result<Form, Allo
     }
 }
 
-/// The form of states under the policy of a file.
-fn form_in(alloc: Global, text: PolicyText, bounds: Bounds) -> Result<Form, AllocError>
-    ensures { IfOk result (IsFormIn text bounds) }
+/// True if tasks are to be told apart though no program does so: there are few, and all lists are searched.
+fn are_apart(bounds: Bounds, first: &Sim) -> bool
+    ensures { result ≡ are_apart bounds first.now.state.world }
+{
+    bounds.few.is_none() && has_few_tasks(first)
+}
+
+/// True if there are few tasks, on a machine whose states need no slices.
+fn has_few_tasks(sim: &Sim) -> bool
+    ensures { result ≡ has_few_tasks sim.now.state.world }
+{
+    match sim.world().rules() {
+        Rules::Plain => !sim.world().is_limited() && sim.tasks() <= MOST_APART,
+        Rules::Linux => false,
+    }
+}
+
+/// The form of states under the policy of a file, with tasks that are to be told apart or not.
+fn form_in(alloc: Global, text: PolicyText, bounds: Bounds, apart: bool) -> Result<Form, AllocError>
+    ensures { IfOk result (IsFormIn text bounds apart) }
 {
     let timeout_ms = text.timeout_ms();
     let uses = uses_of(alloc, text)?;
-    Ok(form_within(bounds.mode, bounds.depth, timeout_ms, uses))
+    Ok(form_within(bounds.mode, bounds.depth, timeout_ms, apart, uses))
 }
 
 /// All that the policy's programs do.
@@ -91,12 +114,12 @@ fn with_callback(
     }
 }
 
-fn form_within(mode: Mode, depth: usize, timeout_ms: u32, uses: Uses) -> Form
-    ensures { result ≡ form_within mode depth timeout_ms uses }
+fn form_within(mode: Mode, depth: usize, timeout_ms: u32, apart: bool, uses: Uses) -> Form
+    ensures { result ≡ form_within mode depth timeout_ms apart uses }
 {
     match mode {
         Mode::Events => {
-            let form = without_names(form_of_events(uses, timeout_ms, depth), uses);
+            let form = without_names(form_of_events(uses, timeout_ms, depth), apart, uses);
             without_slices(form, uses)
         }
         Mode::Milliseconds | Mode::Workloads => form_by(uses, true),
@@ -129,21 +152,37 @@ fn form_by(uses: Uses, waits: bool) -> Form
     }
 }
 
-/// The form in which tasks of a group may change places, if no program tells them apart.
+/// The form in which tasks of a group may change places, if no program tells them apart. They may not either if they are to
+/// be told apart where no program may load a slice or a run time: then all is kept that programs can tell.
 ///
-/// A program does so if it loads the number of a task, or asks for one by its number, or loads the weight of a task where
+/// A program tells tasks apart if it loads the number of a task, or asks for one by its number, or loads the weight of a task where
 /// each has its own. Else the machine alone orders tasks by their numbers, as a policy is ejected, and in a state that is
 /// kept it is in force. So if two tasks of a group have changed places, what follows is the same with these two changed.
-fn without_names(form: Form, uses: Uses) -> Form
-    ensures { result ≡ without_names form uses }
+fn without_names(form: Form, apart: bool, uses: Uses) -> Form
+    ensures { result ≡ without_names form apart uses }
 {
     Form {
-        names: uses.pid || (uses.task_by_pid || uses.own_weight),
+        names: tells_apart(uses) || (apart && !may_load_counts(uses)),
         ..form
     }
 }
 
-/// The form in which slices are left out if tasks may change places, and no program loads a slice or a run time.
+/// True if a program tells tasks of a group apart.
+fn tells_apart(uses: Uses) -> bool
+    ensures { result ≡ tells_apart uses }
+{
+    uses.pid || (uses.task_by_pid || uses.own_weight)
+}
+
+/// True if a program may load a slice or a run time, whatever it is given and answered.
+fn may_load_counts(uses: Uses) -> bool
+    ensures { result ≡ may_load_counts uses }
+{
+    (uses.slice || uses.run_ns) || uses.has_count_load
+}
+
+/// The form in which slices are left out if no program loads a slice or a run time. Where tasks are told apart, no program
+/// may have a load at such an offset from any memory.
 ///
 /// A tick changes the slice and the run time of a task, and what its groups have used. By plain rules the machine reads a slice
 /// only as it ends. So until then a tick changes nothing that is told.
@@ -151,7 +190,7 @@ fn without_slices(form: Form, uses: Uses) -> Form
     ensures { result ≡ without_slices form uses }
 {
     Form {
-        slices: form.names || (uses.slice || uses.run_ns),
+        slices: (uses.slice || uses.run_ns) || (form.names && uses.has_count_load),
         ..form
     }
 }

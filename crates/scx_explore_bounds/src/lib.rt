@@ -23,7 +23,7 @@ pub use forms::form_of;
 pub use laws::{listings_tell_runs, uses_tell_runs};
 pub use memory::{Choice, Memory};
 pub use repeats::{most_in_rows, most_ticks, step_of, times_in};
-pub use steps::{count_of, event_at, is_behind_ticks, most_events, places};
+pub use steps::{count_of, event_at, most_events, places};
 pub use ticks::Ticks;
 pub use twins::twins_of;
 pub use uses::Uses;

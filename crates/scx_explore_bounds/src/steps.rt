@@ -14,11 +14,6 @@ pub fn places(step: Step, cpus: u32) -> usize {
     }
 }
 
-/// True if that place of a millisecond of a machine with `cpus` CPUs is the first one after its ticks.
-pub fn is_behind_ticks(place: usize, cpus: u32) -> bool {
-    place == MOST_TASKS.saturating_add(cpus as usize)
-}
-
 /// The event at that place of a step of a machine with `cpus` CPUs, if there is one there.
 pub fn event_at(step: Step, cpus: u32, place: usize) -> Option<Event> {
     match step {

@@ -1,7 +1,7 @@
 ghost use Rattle.std.specs.Prelude.{◌≡◌, option_copied, IfOk};
 ghost use Rattle.scx_explore_bounds.specs.Forms.{tells_idle_slices};
 ghost use Rattle.scx_explore_states.specs.Asking.{is_early};
-ghost use Rattle.scx_explore_bounds.specs.Uses.{Does, either, gives_none, has, is_call, is_field, is_helper, is_insert, is_load, is_of_task, is_own, is_task, is_use, may_be_0, with_listing};
+ghost use Rattle.scx_explore_bounds.specs.Uses.{Does, either, gives_none, has, is_any_load, is_call, is_field, is_helper, is_insert, is_load, is_of_task, is_own, is_task, is_use, has_count_load, may_be_0, with_listing};
 
 use scx_abs::{AbsState, Kind};
 use scx_isa::{Callback, Field, Helper, Insn, Program, Register, Rules};
@@ -39,6 +39,8 @@ pub struct Uses {
     pub early_slice: bool,
     /// One may insert with a slice of 0, which keeps the one that there is.
     pub empty_slice: bool,
+    /// One has a load of 8 bytes at the offset of a slice or a run time, from any memory.
+    pub has_count_load: bool,
 }
 
 /// A use of the host by an instruction.
@@ -50,6 +52,8 @@ enum Use {
     Load(Field),
     /// An insert whose slice may be 0.
     EmptySlice,
+    /// A load of the bytes at which that field of a task lies, from any memory.
+    AnyLoad(Field),
 }
 
 impl Uses {
@@ -67,6 +71,7 @@ impl Uses {
         slice: false,
         early_slice: false,
         empty_slice: false,
+        has_count_load: false,
     };
 
     /// And what that program does in that context.
@@ -111,6 +116,7 @@ impl Uses {
             slice: either(self.slice, slice),
             early_slice: either(self.early_slice, is_early(callback, slice)),
             empty_slice: either(self.empty_slice, has(listing, Use::EmptySlice)),
+            has_count_load: either(self.has_count_load, has_count_load(listing)),
         }
     }
 
@@ -149,6 +155,13 @@ fn is_own(rules: Rules, load: bool) -> bool
     }
 }
 
+/// True if the program has a load of the bytes at which a slice or a run time lies, from any memory.
+fn has_count_load(listing: &Listing) -> bool
+    ensures { result ≡ has_count_load listing.now }
+{
+    has(listing, Use::AnyLoad(Field::Slice)) || has(listing, Use::AnyLoad(Field::RunNs))
+}
+
 /// True if the program has an instruction that is such.
 #[tactic(auto, using(crate::proofs::Slots::none_below_more))]
 fn has(listing: &Listing, such: Use) -> bool
@@ -169,6 +182,7 @@ fn is_use(such: Use, insn: Option<Insn>, state: Option<&AbsState>) -> bool
         Use::Call(helper) => is_call(helper, insn),
         Use::Load(field) => is_load(field, insn, state),
         Use::EmptySlice => is_insert(insn) && gives_none(state),
+        Use::AnyLoad(field) => is_any_load(field, insn),
     }
 }
 
@@ -198,6 +212,16 @@ fn is_load(field: Field, insn: Option<Insn>, state: Option<&AbsState>) -> bool
         Some(Insn::Load(access, _, base, offset)) => {
             is_of_task(state, base) && is_field(Field::at(offset, access.size()), field)
         }
+        _ => false,
+    }
+}
+
+/// True if it is a load of the bytes at which that field of a task lies, whatever its base register holds.
+fn is_any_load(field: Field, insn: Option<Insn>) -> bool
+    ensures { result ≡ is_any_load field insn }
+{
+    match insn {
+        Some(Insn::Load(access, _, _, offset)) => is_field(Field::at(offset, access.size()), field),
         _ => false,
     }
 }

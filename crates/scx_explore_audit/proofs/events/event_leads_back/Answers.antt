@@ -1,4 +1,4 @@
-use Rattle.std.proofs.Common.{ℕ, ◌≤◌, List, replicate, sym, subst, ap, ◌∙◌}
+use Rattle.std.proofs.Common.{ℕ, replicate, subst, ap, ◌∙◌}
 use Rattle.scx_sched.specs.Sim.{SimState}
 use Rattle.scx_explore_bounds.specs.Repeats.{times_in}
 use Rattle.scx_explore_findings.specs.Path.{machine_of}
