@@ -53,7 +53,7 @@ impl Search {
         for at in 0..self.revisits.len() {
             let step = self.revisits.step(at)?;
             let state = usize::MAX;
-            machine = self.lengthen(machine, Stop { state, step })?;
+            machine = self.lengthen(Stop { state, step }, usize::MAX)?;
         }
         Some(machine)
     }

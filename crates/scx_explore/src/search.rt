@@ -319,10 +319,22 @@ impl Search {
             let left = self.go_from(state, machine, true);
             self.machines.free(left);
         } else if let Some(machine) = self.revisit_machine() {
-            self.go_from(state, machine, false);
+            self.go_from_trail(state, machine);
         } else {
             self.full = true;
         }
+    }
+
+    /// Tries all steps from the last state of the trail, by its machine. The state stays there only if it may be visited
+    /// again.
+    fn go_from_trail(&mut self, state: usize, machine: usize) {
+        if self.revisits.is_closed() {
+            self.go_from(state, machine, false);
+            return;
+        }
+        self.machines.leave_trail();
+        let left = self.go_from(state, machine, true);
+        self.machines.spare(left);
     }
 
     /// Tries all steps from the state of that machine: a kept state, or one that was reached from it. A machine that

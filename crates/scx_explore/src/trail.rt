@@ -1,5 +1,5 @@
 use crate::search::{Search, Stop};
-use scx_explore_bounds::{Memory, Mode, Ticks, event_at, is_behind_ticks, places};
+use scx_explore_bounds::{Memory, Mode, Ticks};
 use scx_explore_machines::push;
 use scx_explore_states::{Step, Tasks};
 use scx_load_workloads::Weighed;
@@ -8,12 +8,13 @@ use scx_sched::Event;
 impl Search {
     /// A machine in that state, which has none of its own: it comes there along the trail.
     pub(crate) fn follow_trail(&mut self, state: usize, depth: usize) -> Option<usize> {
+        let shared = self.revisits.shared_depths(&self.seen, self.end);
         let mut machine = self.look_back(state, depth)?;
         for _ in 0..self.stops.len() {
             let Some(stop) = self.next_stop() else {
                 return Some(machine);
             };
-            machine = self.lengthen(machine, stop)?;
+            machine = self.lengthen(stop, shared)?;
         }
         Some(machine)
     }
@@ -28,19 +29,15 @@ impl Search {
         let mut at = state;
         for back in 0..depth {
             let here = depth.saturating_sub(back);
-            if let Some(machine) = self.cut_trail(at, here) {
+            if let Some(machine) = self.machines.cut_trail(at, here) {
                 return Some(machine);
             }
             at = self.step_back(at)?;
         }
-        match self.cut_trail(at, 0) {
+        match self.machines.cut_trail(at, 0) {
             Some(machine) => Some(machine),
             None => self.begin_trail(at),
         }
-    }
-
-    fn cut_trail(&mut self, state: usize, depth: usize) -> Option<usize> {
-        self.machines.cut_trail(state, depth)
     }
 
     /// The state before that one, whose step is a stop.
@@ -56,53 +53,39 @@ impl Search {
 
     /// The trail begins with the first state.
     fn begin_trail(&mut self, state: usize) -> Option<usize> {
-        self.machines.begin_trail(0);
-        let machine = self.machines.trail_machine()?;
+        let machine = self.machines.begin_trail(state)?;
         self.machines.begin(machine);
-        self.machines.lengthen_trail(state, machine);
         Some(machine)
     }
 
-    /// One more state on the trail.
-    pub(crate) fn lengthen(&mut self, machine: usize, stop: Stop) -> Option<usize> {
-        let next = self.machines.trail_machine()?;
-        self.machines.copy(machine, next);
-        let memory = self.machines.memory(machine);
-        self.follow(next, memory, stop.step);
-        self.machines.lengthen_trail(stop.state, next);
-        Some(next)
+    /// One more state on the trail. The one before it stays if it is among the first `shared` ones.
+    pub(crate) fn lengthen(&mut self, stop: Stop, shared: usize) -> Option<usize> {
+        let last_leaves = self.machines.depth_of_trail() >= shared;
+        let machine = self.machines.lengthen_trail(stop.state, last_leaves)?;
+        self.follow(machine, stop.step);
+        Some(machine)
     }
 
     /// The machine does the step again.
-    fn follow(&mut self, machine: usize, memory: Memory, step: Step) {
-        let cpus = self.machines.sim(machine).cpus();
-        let mut ran = Ticks::NONE;
-        self.look
-            .watch
-            .begin(self.machines.sim(machine), memory.began);
-        for place in 0..places(step, cpus) {
-            if is_behind_ticks(place, cpus) {
-                ran.end(self.machines.sim(machine));
-            }
-            if let Some(event) = event_at(step, cpus, place) {
-                self.follow_event(machine, event, &mut ran);
-            }
-        }
-        let memory = self.memory_behind(machine, memory, step, &ran);
+    fn follow(&mut self, machine: usize, step: Step) {
+        self.watch_from(machine);
+        let ran = self.machines.follow(machine, step, &mut self.look);
+        let mut memory = self.machines.memory(machine);
+        self.note_step(&mut memory, machine, step, &ran);
         self.machines.set_memory(machine, memory);
     }
 
-    fn follow_event(&mut self, machine: usize, event: Event, ran: &mut Ticks) {
-        ran.count(self.machines.sim(machine), event);
-        self.machines.step(machine, event, &mut self.look);
+    /// Waits are watched from that machine's state on.
+    fn watch_from(&mut self, machine: usize) {
+        let began = self.machines.memory(machine).began;
+        self.look.watch.begin(self.machines.sim(machine), began);
     }
 
-    /// The memory after a step that was followed.
-    fn memory_behind(&self, machine: usize, memory: Memory, step: Step, ran: &Ticks) -> Memory {
-        let mut memory = memory;
+    /// Notes a step that was followed in the memory.
+    fn note_step(&self, memory: &mut Memory, machine: usize, step: Step, ran: &Ticks) {
         memory.began = self.look.watch.watched().began;
         match step {
-            Step::Event(event) => self.note_event(&mut memory, event),
+            Step::Event(event) => self.note_event(memory, event),
             Step::Ticks { .. } => {}
             Step::Millisecond { wakes, sleeps } => {
                 memory.use_up(wakes);
@@ -113,7 +96,6 @@ impl Search {
                 }
             }
         }
-        memory
     }
 
     /// Notes an event in the memory, as far as the mode keeps it.

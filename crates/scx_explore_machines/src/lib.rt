@@ -5,6 +5,7 @@
 //! which there was no room. `Look` observes events for a search.
 #![tactic(auto)]
 
+mod following;
 mod look;
 mod machines;
 mod marks;

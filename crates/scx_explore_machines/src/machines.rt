@@ -4,7 +4,7 @@ use scx_sched::{Event, Sim, Sink};
 use std::alloc::{AllocError, Global};
 use std::marker::Model;
 
-/// The number of states of a list that keep their machines, from its end backwards.
+/// The most states of a list that keep their machines on the trail.
 const TRAIL: usize = 64;
 
 /// The most bytes of the maps of all machines together.
@@ -25,6 +25,14 @@ struct Held {
     machine: usize,
 }
 
+/// A state of a list, its depth and the number of its machine.
+#[derive(Clone, Copy)]
+struct Stage {
+    state: usize,
+    depth: usize,
+    machine: usize,
+}
+
 /// Machines for the states that are gone through, and for those on the way to one of them.
 ///
 /// In a contract it is nothing.
@@ -42,9 +50,8 @@ pub struct Machines {
     at: usize,
     /// States of the next depth that have one.
     next: Vec<Held>,
-    /// The end of a list: the state at that depth, and those after it.
-    trail: Vec<Held>,
-    trail_depth: usize,
+    /// States of a list, each deeper than those before it.
+    trail: Vec<Stage>,
 }
 
 impl Model for Machines {
@@ -168,49 +175,96 @@ impl Machines {
         self.at = 0;
     }
 
-    /// The machine of that state of that depth, if it is on the trail, which is cut after it.
+    /// The machine of that state of that depth, if it is on the trail, which is cut after that depth.
     pub fn cut_trail(&mut self, state: usize, depth: usize) -> Option<usize> {
-        let at = depth.checked_sub(self.trail_depth)?;
-        let held = *self.trail.get(at)?;
-        if held.state != state {
+        self.shorten_trail(depth);
+        let last = *self.trail.last()?;
+        if last.state != state || last.depth != depth {
             return None;
         }
-        self.shorten_trail(at.saturating_add(1));
-        Some(held.machine)
+        Some(last.machine)
     }
 
-    /// Nothing is on the trail, which goes on at that depth.
-    pub fn begin_trail(&mut self, depth: usize) {
-        self.shorten_trail(0);
-        self.trail_depth = depth;
-    }
-
-    fn shorten_trail(&mut self, keep: usize) {
+    /// The trail is that state alone, the first one. Answers its machine, if there is one.
+    pub fn begin_trail(&mut self, state: usize) -> Option<usize> {
         for _ in 0..TRAIL {
-            if self.trail.len() <= keep {
+            self.free_last();
+        }
+        let machine = self.trail_machine()?;
+        self.push_trail(state, 0, machine);
+        Some(machine)
+    }
+
+    fn shorten_trail(&mut self, depth: usize) {
+        for _ in 0..TRAIL {
+            if self.depth_of_trail() <= depth {
                 return;
             }
-            if let Some(held) = self.trail.pop() {
-                push(&mut self.spare, held.machine);
-            }
+            self.free_last();
         }
+    }
+
+    /// The depth of the last state of the trail; 0 where there is none.
+    pub fn depth_of_trail(&self) -> usize {
+        match self.trail.last() {
+            Some(last) => last.depth,
+            None => 0,
+        }
+    }
+
+    fn free_last(&mut self) {
+        if let Some(last) = self.trail.pop() {
+            self.spare(last.machine);
+        }
+    }
+
+    /// The machine serves for the trail again.
+    pub fn spare(&mut self, machine: usize) {
+        push(&mut self.spare, machine);
     }
 
     /// A machine for the next state of the trail; its first one where there is none left.
-    pub fn trail_machine(&mut self) -> Option<usize> {
+    fn trail_machine(&mut self) -> Option<usize> {
         if let Some(machine) = self.spare.pop() {
             return Some(machine);
         }
         if self.trail.len() < 2 {
             return None;
         }
-        self.trail_depth = self.trail_depth.saturating_add(1);
         Some(self.trail.remove(0).machine)
     }
 
-    /// Appends the state to the trail.
-    pub fn lengthen_trail(&mut self, state: usize, machine: usize) {
-        push(&mut self.trail, Held { state, machine });
+    /// Appends a state to the trail. It has a copy of the last state's machine, or that machine itself if the last state
+    /// leaves the trail. Answers the machine.
+    pub fn lengthen_trail(&mut self, state: usize, last_leaves: bool) -> Option<usize> {
+        let last = *self.trail.last()?;
+        let depth = last.depth.saturating_add(1);
+        if last_leaves {
+            self.trail.pop();
+            self.push_trail(state, depth, last.machine);
+            return Some(last.machine);
+        }
+        let machine = self.trail_machine()?;
+        self.copy(last.machine, machine);
+        self.set_memory(machine, self.memory(last.machine));
+        self.push_trail(state, depth, machine);
+        Some(machine)
+    }
+
+    /// The last state leaves the trail, and its machine with it.
+    pub fn leave_trail(&mut self) {
+        self.trail.pop();
+    }
+
+    fn push_trail(&mut self, state: usize, depth: usize, machine: usize) {
+        push(
+            &mut self.trail,
+            Stage {
+                state,
+                depth,
+                machine,
+            },
+        );
     }
 }
 
@@ -222,7 +276,7 @@ struct Lists {
     spare: Vec<usize>,
     here: Vec<Held>,
     next: Vec<Held>,
-    trail: Vec<Held>,
+    trail: Vec<Stage>,
 }
 
 impl Lists {
@@ -271,7 +325,6 @@ fn of_lists(pool: Pool, first: Memory, lists: Lists) -> Machines {
         at: 0,
         next,
         trail,
-        trail_depth: 0,
     }
 }
 

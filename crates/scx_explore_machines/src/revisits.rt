@@ -1,4 +1,5 @@
 use crate::machines::push;
+use crate::seen::Seen;
 use scx_explore_states::Step;
 use scx_sched::Event;
 use std::alloc::{AllocError, Global};
@@ -150,6 +151,27 @@ impl Revisits {
         self.origin
     }
 
+    /// The number of states on the way to that state that are also on the way to the one that is gone through after it:
+    /// the next one, if it is below `end`. All may be come to again if some state had no room.
+    pub fn shared_depths(&self, seen: &Seen, end: usize) -> usize {
+        if self.is_closed() {
+            return usize::MAX;
+        }
+        let Origin { state, depth } = self.origin;
+        let (mut one, mut other) = (state, state.saturating_add(1));
+        if other >= end {
+            return 0;
+        }
+        for back in 0..depth {
+            one = before(seen, one);
+            other = before(seen, other);
+            if one == other {
+                return depth.saturating_sub(back);
+            }
+        }
+        0
+    }
+
     /// Takes that kept state in hand.
     pub fn begin(&mut self, origin: Origin) {
         self.steps.clear();
@@ -270,5 +292,13 @@ impl Revisits {
             Some(step) => Some(*step),
             None => None,
         }
+    }
+}
+
+/// The state before that one; the first one where there is none.
+fn before(seen: &Seen, state: usize) -> usize {
+    match seen.way(state) {
+        Some(way) => way.from,
+        None => 0,
     }
 }
