@@ -30,7 +30,7 @@ use Rattle.scxsim_explore_lines.specs.Summary.{Nones}
 use Rattle.scxsim_explore.specs.declared.limits.Lists.{Lists}
 use Rattle.scxsim_explore.specs.Words.{IsBoundsOf, IsSmall, IsWithin, most_depth}
 use Rattle.scxsim_explore.specs.Telling.{IsGoneThrough, IsSure, NeedsNothing, moves_of}
-use Rattle.scxsim_explore.proofs.KeptWhole.{keeps_waits, keeps_slices, keeps_all_read}
+use Rattle.scxsim_explore.proofs.KeptWhole.{bits, keeps_waits, leaves_slices, may_leave_slices, keeps_all_read}
 
 -- ---- the length of a millisecond
 
@@ -104,10 +104,17 @@ once_each form b t c room kept few =
     at_most : (n k : ℕ) → k ≤ min (min n (2 ^ 64 - 1) * 1) (2 ^ 64 - 1) → k ≤ min n (2 ^ 64 - 1)
     at_most n k less = omega (arith, less)
 
--- ---- what is sure
+-- where they don't, lists are of events, and each comes 8,192 times at most
+rows_fit : (b : Bounds) (s : SimState) (t c room : ℕ) → b.mode ≡ mode.Events → b.depth ≤ 64 → s.events ≡ 0 → room ≤ most_in_rows false b t c → HasRoom Events s room
+rows_fit b s t c room of_events deep none few = λ es move.
+    let short : length es ≤ 1 = subst (λ (xs : List Event). length xs ≤ 1) (sym move.2) (omega arith) in
+    let step : most_of_step b.mode t c ≡ 1 = ap (λ (m : Mode). most_of_step m t c) of_events in
+    at_most s.events b.depth room (length es) none deep (subst (λ (n : ℕ). room ≤ min (min (b.depth * n) (2 ^ 64 - 1) * 8192) (2 ^ 64 - 1)) step few) short
+  where
+    at_most : (e d n k : ℕ) → e ≡ 0 → d ≤ 64 → n ≤ min (min (d * 1) (2 ^ 64 - 1) * 8192) (2 ^ 64 - 1) → k ≤ 1 → e + n + k ≤ max_events
+    at_most e d n k none deep few short = omega (arith, none, deep, few, short)
 
-bits : (b : Bool) → b ≡ false → b ≡ true → ⊥
-bits b x y = absurd (cc)
+-- ---- what is sure
 
 events_alone : (moves : Moves) → moves_of mode.Events ≡ Some moves → moves ≡ Events
 events_alone Events is = refl
@@ -134,23 +141,33 @@ needs_nothing policy workload l b w s form n named run within f sound limit same
     flags : length (first_tree w).active ≡ length (first_tree w).homes
     flags = length-replicate (length w.homes) false
 
+    moves_are : (moves : Moves) → moves_of b.mode ≡ Some moves → b.mode ≡ mode.Events → moves ≡ Events
+    moves_are moves of_mode of_events = events_alone moves (sym (ap moves_of of_events) ∙ of_mode)
+
     -- waits are kept, or lists are of events that aren't asked about stalls
     asks_none : (moves : Moves) → moves_of b.mode ≡ Some moves → AsksNoStalls form moves n.sorts
     asks_none moves of_mode =
         ⊎_elim (λ (kept : form.waits ≡ true). inl kept)
         (λ (of_events : b.mode ≡ mode.Events).
-        inr (events_alone moves (sym (ap moves_of of_events) ∙ of_mode), stalls (ap (λ (c : Bounds). c.mode) same ∙ of_events)))
+        inr (moves_are moves of_mode of_events, stalls (ap (λ (c : Bounds). c.mode) same ∙ of_events)))
         (keeps_waits policy workload b w s form run f)
+
+    -- with slices or without, there is room
+    room_in : (moves : Moves) (room : ℕ) (kept : Bool) → moves_of b.mode ≡ Some moves → room ≤ most_in_rows form.slices b (length s.state.world.tasks) (length s.state.world.cpus) → form.slices ≡ kept → HasRoom moves s room
+    room_in moves room true of_mode few e = has_room b.mode moves b s room of_mode deep within.small run.begun.first.1 (once_each form b (length s.state.world.tasks) (length s.state.world.cpus) room e few)
+    room_in moves room false of_mode few e =
+        let of_events = leaves_slices policy workload b w s form run f e in
+        subst (λ (m : Moves). HasRoom m s room) (sym (moves_are moves of_mode of_events))
+        (rows_fit b s (length s.state.world.tasks) (length s.state.world.cpus) room of_events (subst (λ (m : Mode). b.depth ≤ most_depth m) of_events named.depth.most) run.begun.first.1
+        (subst (λ (k : Bool). room ≤ most_in_rows k b (length s.state.world.tasks) (length s.state.world.cpus)) e few))
 
     none_in : (moves : Moves) → IsGoneThrough form w s n moves → NoneIn moves n.reach n.sorts s
     none_in moves gone =
         let sure : IsSure form b moves n.reach n.sorts s = subst (λ (c : Bounds). IsSure form c moves n.reach n.sorts s) same gone.sure in
         let of_mode : moves_of b.mode ≡ Some moves = sym (ap (λ (c : Bounds). moves_of c.mode) same) ∙ gone.of_mode in
-        let kept : form.slices ≡ true = keeps_slices policy workload b w s form run f told_apart in
         sure.whole p (first_tree w) w.cpus run.begun.first (shape_is_right w sound) flags (subst (λ (q : PolicyState). IsTimeout q.timeout_ms) policy_is limit)
-        (keeps_all_read policy workload b w s form run f told_apart exact (λ linux loads. absurd (bits (are_linux s.state.policy.rules) plain_policy linux))) (asks_none moves of_mode) (inl kept) plain
-        (has_room b.mode moves b s sure.room of_mode deep within.small run.begun.first.1
-        (once_each form b (length s.state.world.tasks) (length s.state.world.cpus) sure.room kept sure.few))
+        (keeps_all_read policy workload b w s form run f told_apart exact (λ linux loads. absurd (bits (are_linux s.state.policy.rules) plain_policy linux))) (asks_none moves of_mode)
+        (may_leave_slices policy workload b w s form run f moves (moves_are moves of_mode) told_apart) plain (room_in moves sure.room form.slices of_mode sure.few refl)
 
     go : (o : Option Moves) → IfSome o (IsGoneThrough form w s n) → IfSome o (λ moves. NoneIn moves n.reach n.sorts s)
     go None h = h

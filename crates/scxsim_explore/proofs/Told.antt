@@ -25,7 +25,7 @@ use Rattle.scxsim_explore.specs.Words.{IsBoundsOf, IsPast, limit_line}
 use Rattle.scxsim_explore.specs.Telling.{HasFile, IsShown, IsTold, IsExplored, IsAnswer}
 use Rattle.scxsim_explore.specs.Lists.{Adds, HasLists, HasTold}
 use Rattle.scxsim_explore.specs.Beginning.{IsReady}
-use Rattle.scxsim_explore.proofs.KeptWhole.{keeps_all_read}
+use Rattle.scxsim_explore.proofs.KeptWhole.{few_apart, keeps_all_read}
 use Rattle.scxsim_explore.proofs.Sure.{needs_nothing}
 
 -- no list
@@ -115,6 +115,7 @@ explored policy workload l b w s form whole old new named ready sound limit told
       form = form;
       of_policy = ready.of_policy;
       keeps = keeps_all_read policy workload b w s form ready.run ready.of_policy;
+      apart = few_apart policy workload b w s form ready.run ready.of_policy;
       told = told;
       sure = needs_nothing policy workload l b w s form told.nones named ready.run ready.within ready.of_policy sound limit told.bounds told.apart.stalls told.again;
     }

@@ -23,7 +23,7 @@ use Rattle.scx_explore_audit.specs.Laws.{NoneIn}
 use Rattle.scx_explore_audit.specs.Whole.{NeedsNoPremise}
 use Rattle.scx_load_replay.specs.WorkloadFiles.{IsFileOf}
 use Rattle.scx_explore.specs.declared.starts.Starts.{Starts}
-use Rattle.scx_explore_bounds.specs.Forms.{IsFormFrom}
+use Rattle.scx_explore_bounds.specs.Forms.{may_load_counts, are_apart, IsFormFrom}
 use Rattle.scx_explore.specs.Ends.{HasNoNew, done_of}
 use Rattle.scxsim_runs.specs.Runs.{IsRun}
 use Rattle.scxsim_explore.specs.declared.limits.Limit.{Limit}
@@ -173,8 +173,8 @@ pub record IsTold
     pub again : IfSome nones.again (IsGoneThrough form w first nones)
 
 -- The form keeps all that the policy's programs can read in their runs, if slices end exactly and
--- it tells tasks apart, as it does but in lists of events. By Linux rules that is only said if it
--- keeps slices of tasks that sleep or are held where a program loads a slice.
+-- it tells tasks apart, as it always does but in lists of events. By Linux rules that is only said
+-- if it keeps slices of tasks that sleep or are held where a program loads a slice.
 abbrev pub KeepsAllRead :
     (policy : List ℕ) (b : Bounds) (first : SimState) (form : Form)
     → IsFormFrom policy b first form → Type 0
@@ -185,9 +185,19 @@ KeepsAllRead policy b first form f =
     → f.of_policy.form.uses.slice ≡ true → form.idle_slices ≡ true)
     → IsWholeInRuns first.state.policy form
 
+-- The form tells tasks apart where there are few of them, all lists are searched, states need no
+-- slices, and no program may load a slice or a run time.
+abbrev pub TellsFewApart :
+    (policy : List ℕ) (b : Bounds) (first : SimState) (form : Form)
+    → IsFormFrom policy b first form → Type 0
+TellsFewApart policy b first form f =
+    are_apart b first.state.world ≡ true
+    → may_load_counts f.of_policy.form.uses ≡ false
+    → form.names ≡ true
+
 -- By plain rules, without timers and where slices end exactly, nothing is presumed if the form
--- tells tasks apart, as it does but in lists of events: if a line says that states were audited, no
--- list shows anything of its sorts.
+-- tells tasks apart, as it always does but in lists of events: if a line says that states were
+-- audited, no list shows anything of its sorts.
 abbrev pub NeedsNothing : Bounds → SimState → Form → Nones → Type 0
 NeedsNothing b first form n =
     IsPlain first
@@ -199,7 +209,7 @@ NeedsNothing b first form n =
 -- last line if memory ran out meanwhile. The machine of the texts accepts each list, and the list
 -- ends in what is said of it. States have the form that the policy's programs decide, as it suits
 -- the machine, which is past no limit; it leaves out nothing that these can read where it tells
--- tasks apart.
+-- tasks apart, as it does with few of them if no program may load a slice or a run time.
 pub record IsExplored
     (policy workload : List ℕ) (b : Bounds) (whole : Bool) (old new : Option (List ℕ)) : Type 0
   where
@@ -210,6 +220,7 @@ pub record IsExplored
     pub form : Form
     pub of_policy : IsFormFrom policy b first form
     pub keeps : KeepsAllRead policy b first form of_policy
+    pub apart : TellsFewApart policy b first form of_policy
     pub told : IsTold form of_workload first b whole old new
     pub sure : NeedsNothing b first form told.nones
 

@@ -90,7 +90,7 @@ pub(crate) fn start_of_texts(
     ensures refused { IfErr result (IsCause policy.now workload.now) }
 {
     let run = prepare(alloc, policy, workload)?;
-    match setup_of(alloc, policy, &run.workload, bounds) {
+    match setup_of(alloc, policy, &run, bounds) {
         Ok(setup) => start_of_run(alloc, run, setup, bounds),
         Err(AllocError) => {
             drop(run);
@@ -104,16 +104,11 @@ pub(crate) fn start_of_texts(
 /// # Errors
 ///
 /// Memory runs out.
-fn setup_of(
-    alloc: Global,
-    policy: &str,
-    about: &Workload,
-    bounds: Bounds,
-) -> Result<Setup, AllocError>
-    ensures { IfOk result (λ setup. IsFormOf policy.now bounds setup.form) }
+fn setup_of(alloc: Global, policy: &str, run: &Run, bounds: Bounds) -> Result<Setup, AllocError>
+    ensures { IfOk result (λ setup. IsFormOf policy.now bounds run.now.sim setup.form) }
 {
-    let starts = starts_of(alloc, policy, about)?;
-    let form = form_of(alloc, policy, bounds)?;
+    let starts = starts_of(alloc, policy, &run.workload)?;
+    let form = form_of(alloc, policy, bounds, &run.sim)?;
     Ok(Setup { starts, form })
 }
 
