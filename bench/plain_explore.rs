@@ -8,7 +8,7 @@
 //! without slices that an insert sets anew before they count), `alike` (also without who is who in a group; in
 //! `events` alone) or `rows` (also without how long slices are, but for those that never end; in `events` alone, where no
 //! program loads a slice or a run time and no group has a quota). With `rows` a CPU ticks until its task's slice ends, as
-//! one step. No list has more than K wakes and sleeps, if K is given.
+//! one step, and without K tasks of a workload with at most four are told apart. No list has more than K wakes and sleeps, if K is given.
 
 use crate::plain_verify::CALLBACKS;
 use crate::plain_files::{Policy, Workload};

@@ -8,6 +8,9 @@ use crate::plain_slots::{CALL, Slot};
 use crate::plain_tasks::{NEVER, NOWHERE};
 use crate::plain_verify::Callback;
 
+/// The most tasks that are told apart though no program does so, where states keep no slices.
+const MOST_APART: usize = 4;
+
 /// What a list has shown so far, by the notes that its machine takes.
 #[derive(Clone)]
 pub struct Watch {
@@ -122,6 +125,9 @@ impl Form {
         let early = |(callback, slot): (Callback, Slot)| is_load(slot, 8, 8) && (by_pid || !late(callback));
         let shortened = matches!(words.form.as_str(), "slices" | "alike" | "rows");
         let is_counted = is_limited || loads(8, 8) || loads(32, 8);
+        let rows = words.form == "rows" && !words.ms && !is_counted;
+        let are_few = rows && words.few.is_none() && workload.tasks.len() <= MOST_APART;
+        let is_alike = matches!(words.form.as_str(), "alike" | "rows") && !words.ms && !are_few;
         Form {
             clock: all || is_limited || calls(5),
             pushes: all,
@@ -133,8 +139,8 @@ impl Form {
             usages: is_limited,
             choices: words.few.is_some(),
             slices: !shortened || machine.slots().any(early),
-            rows: words.form == "rows" && !words.ms && !is_counted,
-            alike: matches!(words.form.as_str(), "alike" | "rows") && !words.ms && !by_pid && !loads(0, 4),
+            rows,
+            alike: is_alike && !by_pid && !loads(0, 4),
         }
     }
 
