@@ -5,7 +5,7 @@ use std::alloc::{AllocError, Global};
 use std::convert::AsStr;
 
 /// The version. It is written here alone: scripts ask the program for it.
-const VERSION: &str = "0.26.0";
+const VERSION: &str = "0.27.0";
 
 /// The request of a command line. `clap` refuses words that name no command and its files, so there is a
 /// request wherever it accepts them.
