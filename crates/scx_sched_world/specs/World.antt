@@ -11,6 +11,7 @@ use Rattle.scx_isa_semantics.specs.declared.rules.Rules.{Rules}
 use Rattle.scx_isa_semantics.specs.declared.rules.Rules.TheVariants.{Plain, Linux}
 use Rattle.scx_sched_world.specs.Ids.{parked_queue}
 use Rattle.scx_sched_world.specs.declared.cpu_set.CpuSet.{CpuSet}
+use Rattle.scx_sched_world.specs.declared.cpu_set.Marks.{Marks}
 use Rattle.scx_sched_world.specs.CpuSets.{no_cpus, is_in_set, and_cpu, but_cpu}
 use Rattle.scx_sched_world.specs.declared.notes.Note.{Note}
 use Rattle.scx_sched_world.specs.declared.notes.What.{What}
@@ -102,6 +103,10 @@ without_kick w c =
 -- the world with no processor claimed, kicked or preempted
 abbrev pub without_marks : WorldState → WorldState
 without_marks w = record w { claimed = no_cpus; kicked = no_cpus; preempted = no_cpus }
+
+-- its processors that are claimed, kicked and preempted
+abbrev pub marks_of : WorldState → Marks
+marks_of w = record { claimed = w.claimed; kicked = w.kicked; preempted = w.preempted }
 
 -- the world with these dispatch queues
 abbrev pub with_queues : WorldState → QueueState → WorldState

@@ -6,6 +6,17 @@ ghost use Rattle.scx_sched_world.specs.CpuSets.{is_in_set, and_cpu, but_cpu};
 #[derive(Clone, Copy, Debug, PartialEq, Eq)]
 pub struct CpuSet(u64);
 
+/// CPUs as they are marked under Linux rules, while the policy is in force.
+#[derive(Clone, Copy)]
+pub struct Marks {
+    /// Those that were chosen for a task, and on which no cycle has begun since.
+    pub claimed: CpuSet,
+    /// Those that look for work as the event ends.
+    pub kicked: CpuSet,
+    /// Those on which the task that runs loses its slice then.
+    pub preempted: CpuSet,
+}
+
 impl CpuSet {
     /// No CPU.
     pub const EMPTY: CpuSet = CpuSet(0);
@@ -47,6 +58,14 @@ impl CpuSet {
         } else {
             self
         }
+    }
+
+    /// A bit for each CPU of the set.
+    #[inline(always)]
+    pub fn bits(self) -> u64
+        ensures { result ≡ self.0 }
+    {
+        self.0
     }
 
     /// These CPUs too, one bit each.

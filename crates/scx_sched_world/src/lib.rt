@@ -28,7 +28,7 @@ mod timers;
 mod world;
 
 pub use call::{Call, Insert};
-pub use cpu_set::CpuSet;
+pub use cpu_set::{CpuSet, Marks};
 pub use eject::{Cause, Eject};
 pub use faults::Fault;
 pub use ids::{BUILTIN, GLOBAL, HELD, LOCAL, LOCAL_ON, PARKED, POLICY_END};

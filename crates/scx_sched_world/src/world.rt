@@ -9,11 +9,11 @@ ghost use Rattle.scx_sched_world.specs.Helpers.{task_argument, with_insert};
 ghost use Rattle.scx_sched_world.specs.Kept.{lowest_bit, StaysParked, NobodyIsFree};
 ghost use Rattle.scx_sched_world.specs.Waits.{first_overdue};
 ghost use Rattle.scx_weights.specs.Limits.{usage_of};
-ghost use Rattle.scx_sched_world.specs.World.{task_at, wait, with_task, is_runnable, is_throttled, waits, running, with_cpu, with_switch, cycling_by_linux, with_cycling, out_of_cycle, with_timers, with_slept, with_waker, is_this, cpu_of, current_in, current, is_current, with_kick, with_preemption, without_kick, without_marks, are_linux, is_by_linux, with_rules, at_callback, quiet, here, note_now};
+ghost use Rattle.scx_sched_world.specs.World.{marks_of, task_at, wait, with_task, is_runnable, is_throttled, waits, running, with_cpu, with_switch, cycling_by_linux, with_cycling, out_of_cycle, with_timers, with_slept, with_waker, is_this, cpu_of, current_in, current, is_current, with_kick, with_preemption, without_kick, without_marks, are_linux, is_by_linux, with_rules, at_callback, quiet, here, note_now};
 
 use crate::call::{Insert, KeptCall};
 use crate::counting;
-use crate::cpu_set::CpuSet;
+use crate::cpu_set::{CpuSet, Marks};
 use crate::eject::{Cause, Eject};
 use crate::ids::{BUILTIN, GLOBAL, HELD, LOCAL_ON, PARKED, PARKED_PLACE};
 use crate::notes::{Note, What};
@@ -495,6 +495,17 @@ impl World {
         self.claimed = CpuSet::EMPTY;
         self.kicked = CpuSet::EMPTY;
         self.preempted = CpuSet::EMPTY;
+    }
+
+    /// The CPUs that are claimed, kicked and preempted.
+    pub fn marks(&self) -> Marks
+        ensures { result ≡ marks_of self.now }
+    {
+        Marks {
+            claimed: self.claimed,
+            kicked: self.kicked,
+            preempted: self.preempted,
+        }
     }
 
     /// True if the processor was kicked, and hasn't looked for work since.
