@@ -1,5 +1,5 @@
 -- Words of a state, one part after another.
-use Rattle.std.proofs.Common.{◌≡◌, ℕ, zero, suc, ◌+◌, ◌*◌, ◌<◌, ◌≤◌, List, [], ◌∷◌, ◌++◌, length, take, drop, get_or, Option, sym, ap, ◌∙◌, append_assoc, arith}
+use Rattle.std.proofs.Common.{◌≡◌, ℕ, zero, suc, ◌+◌, ◌*◌, ◌<◌, ◌≤◌, List, [], ◌∷◌, ◌++◌, length, take, drop, get_or, Option, refl, sym, ap, ◌∙◌, append_assoc, arith}
 use Rattle.std.proofs.lemmas.List.{drop_all, drop_more, take_all, take_more, append-nil}
 use Rattle.std.specs.Prelude.{min}
 use Rattle.scx_isa_semantics.specs.Directories.{Directory, Array}
@@ -7,14 +7,15 @@ use Rattle.scx_maps.specs.Words.{part_words, parts_words}
 use Rattle.scx_weights.specs.Hierarchy.{Hierarchy}
 use Rattle.scx_weights.specs.Limits.{usage_of}
 use Rattle.scx_sched_world.specs.declared.timers.Alarm.{Alarm}
-use Rattle.scx_sched_world.specs.World.{WorldState}
+use Rattle.scx_sched_world.specs.declared.cpu_set.Marks.{Marks}
+use Rattle.scx_sched_world.specs.World.{WorldState, marks_of}
 use Rattle.scx_sched_world.specs.Helpers.{alarm_at}
 use Rattle.scx_sched.specs.Sim.{SimState}
 use Rattle.scx_explore_states.specs.declared.form.Form.{Form}
 use Rattle.scx_explore_states.specs.declared.rows.Row.{Row}
 use Rattle.scx_explore_states.specs.Rows.{entries_of, rows_of}
 use Rattle.scx_explore_states.specs.NotZero.{kept_words}
-use Rattle.scx_explore_states.specs.Written.{AreKnown, IsFair, IsWritten, byte_words, map_words, eight_at, joined, kept_word, row_in, flags_word, flags_words, until_due, cpu_of_alarm, alarm_words, timer_words, linux_words, past_tick, row_words, rows_words, rules_words, spot_words, state_words, task_words, time_words, usage_words, used_words, word_from, word_of}
+use Rattle.scx_explore_states.specs.Written.{AreKnown, IsFair, IsWritten, byte_words, map_words, eight_at, joined, kept_word, row_in, marks_words, until_due, cpu_of_alarm, alarm_words, timer_words, linux_words, past_tick, row_words, rows_words, rules_words, spot_words, state_words, task_words, time_words, usage_words, used_words, word_from, word_of}
 
 -- a part behind others
 pub behind : (xs ys zs ps qs : List ℕ) → zs ≡ ys ++ qs → ys ≡ xs ++ ps → zs ≡ xs ++ (ps ++ qs)
@@ -101,13 +102,12 @@ state_parts f rows order s n old xs ys zs us new many first second third fourth 
     ∙ (five old (task_words f rows order n) (time_words f w) (usage_words w) (rules_words s.state) held
     ∙ ap (λ (k : ℕ). old ++ (task_words f rows order k ++ rest)) many))
 
--- the flags of one more processor
-pub flags_more : (w : WorldState) (n k : ℕ) (xs ys zs : List ℕ) → zs ≡ ys ++ k ∷ [] → ys ≡ xs ++ flags_words w n → k ≡ flags_word w n → zs ≡ xs ++ flags_words w (n + 1)
-flags_more w n k xs ys zs new old is =
-    let on : n + 1 ≡ suc n = omega arith in
-    behind xs ys zs (flags_words w n) (k ∷ []) new old
-    ∙ ap (λ (x : ℕ). xs ++ (flags_words w n ++ x ∷ [])) is
-    ∙ ap (λ (x : ℕ). xs ++ flags_words w x) (sym on)
+-- which processors are claimed, kicked and preempted
+pub marks_parts : (m : Marks) (a b c : ℕ) (old xs ys new : List ℕ) → a ≡ m.claimed.0 → b ≡ m.kicked.0 → c ≡ m.preempted.0 → xs ≡ old ++ a ∷ [] → ys ≡ xs ++ b ∷ [] → new ≡ ys ++ c ∷ [] → new ≡ old ++ marks_words m
+marks_parts m a b c old xs ys new claimed kicked preempted first second last =
+    behind xs ys new (b ∷ []) (c ∷ []) last second
+    ∙ behind old xs (xs ++ b ∷ c ∷ []) (a ∷ []) (b ∷ c ∷ []) refl first
+    ∙ (λ i. old ++ claimed i ∷ kicked i ∷ preempted i ∷ [])
 
 -- a timer: how long it is until it is due, and its processor
 pub alarm_parts : (clock c : ℕ) (o a : Option Alarm) (old xs new : List ℕ) → c ≡ clock → a ≡ o → xs ≡ old ++ until_due c a ∷ [] → new ≡ xs ++ cpu_of_alarm a ∷ [] → new ≡ old ++ alarm_words clock o
@@ -121,11 +121,11 @@ timers_more w n xs ys zs new old =
     let on : n + 1 ≡ suc n = omega arith in
     behind xs ys zs (timer_words w n) (alarm_words w.clock (alarm_at w n)) new old ∙ ap (λ (x : ℕ). xs ++ timer_words w x) (sym on)
 
--- the flags of processors, and timers
-pub marks_parts : (w : WorldState) (n m : ℕ) (old xs new : List ℕ) → n ≡ length w.cpus → m ≡ length w.timers → xs ≡ old ++ flags_words w n → new ≡ xs ++ timer_words w m → new ≡ old ++ linux_words w
-marks_parts w n m old xs new many all first last =
-    behind old xs new (flags_words w n) (timer_words w m) last first
-    ∙ (ap (λ (x : ℕ). old ++ (flags_words w x ++ timer_words w m)) many ∙ ap (λ (x : ℕ). old ++ (flags_words w (length w.cpus) ++ timer_words w x)) all)
+-- all of these, and timers
+pub rules_parts : (w : WorldState) (m : Marks) (n : ℕ) (old xs new : List ℕ) → m ≡ marks_of w → n ≡ length w.timers → xs ≡ old ++ marks_words m → new ≡ xs ++ timer_words w n → new ≡ old ++ linux_words w
+rules_parts w m n old xs new marked all first last =
+    behind old xs new (marks_words m) (timer_words w n) last first
+    ∙ (ap (λ (x : Marks). old ++ (marks_words x ++ timer_words w n)) marked ∙ ap (λ (k : ℕ). old ++ (marks_words (marks_of w) ++ timer_words w k)) all)
 
 -- the clock from tick to tick behind others, and what is kept of processors and timers
 pub linux_parts : (w : WorldState) (tick clock t c k : ℕ) (old xs new : List ℕ) → k ≡ past_tick t c → t ≡ tick → c ≡ clock → xs ≡ old ++ k ∷ [] → new ≡ xs ++ linux_words w → new ≡ old ++ past_tick tick clock ∷ linux_words w

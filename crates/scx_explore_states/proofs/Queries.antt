@@ -1,4 +1,4 @@
--- What a program asks, by its code and its registers: what holds of each query that an instruction may make holds of all
+-- The queries of a program, by its code and its registers: what holds of each query that an instruction may make holds of all
 -- that it asks, and what each such query keeps a run keeps.
 use Rattle.std.proofs.Common.{◌≡◌, ℕ, zero, suc, ◌&&◌, ℤ, List, Bool, true, false, if◌then◌else◌, Option, Some, None, nat_eq, refl}
 use Rattle.scx_isa_semantics.specs.declared.instructions.Insn.{Insn}

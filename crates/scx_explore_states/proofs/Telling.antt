@@ -16,7 +16,7 @@ use Rattle.scx_sched.specs.Sim.{SimState}
 use Rattle.scx_explore_states.specs.declared.form.Form.{Form}
 use Rattle.scx_explore_states.specs.declared.rows.Row.{Row}
 use Rattle.scx_explore_states.specs.Rows.{kept, bit_of, waiting_key, is_by_vtime, ahead_of, entries_of, place_of, spot_of, row_of, no_row, task_row, rows_of}
-use Rattle.scx_explore_states.specs.Written.{joined, kept_word, own_order, task_in, row_in, spot_words, row_words, rows_words, time_words, used_words, usage_words, flags_word, flags_words, alarm_words, timer_words, linux_words, rules_words, map_words, past_tick, task_words, state_words}
+use Rattle.scx_explore_states.specs.Written.{joined, kept_word, own_order, task_in, row_in, spot_words, row_words, rows_words, time_words, used_words, usage_words, alarm_words, timer_words, linux_words, rules_words, map_words, past_tick, task_words, state_words}
 use Rattle.scx_explore_states.specs.Words.{number_in, most_queues}
 use Rattle.scx_explore_states.specs.NotZero.{kept_words}
 use Rattle.scx_explore_states.specs.Laws.{Fits}
@@ -28,7 +28,7 @@ use Rattle.scx_explore_states.proofs.Spots.{numbers_tell, bit_small}
 -- ---- lists
 
 -- of two lists that are the same the first parts are, where they are as long, and so are the rests
-parts_same : (xs ys us vs : List ℕ) → length xs ≡ length us → xs ++ ys ≡ us ++ vs → (xs ≡ us) × (ys ≡ vs)
+pub parts_same : (xs ys us vs : List ℕ) → length xs ≡ length us → xs ++ ys ≡ us ++ vs → (xs ≡ us) × (ys ≡ vs)
 parts_same [] ys [] vs n e = (refl, e)
 parts_same [] ys (u ∷ us) vs n e = absurd (omega (arith, n))
 parts_same (x ∷ xs) ys [] vs n e = absurd (omega (arith, n))
@@ -290,11 +290,8 @@ used_long : (x y : Hierarchy) (n : ℕ) → length (used_words x n) ≡ length (
 used_long x y zero = refl
 used_long x y (suc n) = longer_same (used_words x n) (usage_of x n ∷ []) (used_words y n) (usage_of y n ∷ []) (used_long x y n) refl
 
-flags_long : (v w : WorldState) (n : ℕ) → length (flags_words v n) ≡ length (flags_words w n)
-flags_long v w zero = refl
-flags_long v w (suc n) = longer_same (flags_words v n) (flags_word v n ∷ []) (flags_words w n) (flags_word w n ∷ []) (flags_long v w n) refl
-
-timers_long : (v w : WorldState) (n : ℕ) → length (timer_words v n) ≡ length (timer_words w n)
+-- as many timers have as many words
+pub timers_long : (v w : WorldState) (n : ℕ) → length (timer_words v n) ≡ length (timer_words w n)
 timers_long v w zero = refl
 timers_long v w (suc n) = longer_same (timer_words v n) (alarm_words v.clock (alarm_at v n)) (timer_words w n) (alarm_words w.clock (alarm_at w n)) (timers_long v w n) refl
 
@@ -312,10 +309,7 @@ module _ (v w : WorldState) (shape : AreOfOneShape v w) where
       (ap suc (used_long v.tree w.tree (length v.tree.groups) ∙ ap (λ (gs : List Group). length (used_words w.tree (length gs))) shape.groups))
 
   linux_long : length (linux_words v) ≡ length (linux_words w)
-  linux_long =
-      longer_same (flags_words v (length v.cpus)) (timer_words v (length v.timers)) (flags_words w (length w.cpus)) (timer_words w (length w.timers))
-      (flags_long v w (length v.cpus) ∙ ap (λ (n : ℕ). length (flags_words w n)) shape.cpus)
-      (timers_long v w (length v.timers) ∙ ap (λ (n : ℕ). length (timer_words w n)) shape.timers)
+  linux_long = ap (λ (n : ℕ). suc (suc (suc n))) (timers_long v w (length v.timers) ∙ ap (λ (n : ℕ). length (timer_words w n)) shape.timers)
 
   times_long : (f : Form) → length (time_words f v) ≡ length (time_words f w)
   times_long f =

@@ -1,5 +1,4 @@
--- What the words of a state tell of a machine that is written by them, where each task has its own
--- place in them.
+-- The words of a state tell what is kept of its machine, where each task has its own place in them.
 use Rattle.std.specs.Prelude.{◌≡◌, ℕ, ◌<◌, ◌≤◌, ◌%◌, ◌||◌, not, min, true, List, length}
 use Rattle.scx_dsq.specs.Queues.{entry_of}
 use Rattle.scx_sched_world.specs.World.{WorldState, task_at, wait, cpu_of}

@@ -6,15 +6,15 @@ use Rattle.scx_maps.specs.Lending.{all_bytes}
 use Rattle.scx_maps.specs.Words.{parts_words}
 use Rattle.scx_weights.specs.Hierarchy.{Hierarchy}
 use Rattle.scx_weights.specs.Limits.{usage_of, has_quota}
-use Rattle.scx_sched_world.specs.CpuSets.{is_in_set}
-use Rattle.scx_sched_world.specs.World.{WorldState, are_linux, is_free}
+use Rattle.scx_sched_world.specs.declared.cpu_set.Marks.{Marks}
+use Rattle.scx_sched_world.specs.World.{WorldState, are_linux, marks_of}
 use Rattle.scx_sched_world.specs.Helpers.{group_at, cpus_of, alarm_at}
 use Rattle.scx_sched_world.specs.declared.timers.Alarm.{Alarm}
 use Rattle.scx_sched_machine.specs.Steps.{State}
 use Rattle.scx_sched.specs.Sim.{SimState}
 use Rattle.scx_explore_states.specs.declared.form.Form.{Form}
 use Rattle.scx_explore_states.specs.declared.rows.Row.{Row}
-use Rattle.scx_explore_states.specs.Rows.{bit_of, entries_of, no_row, rows_of}
+use Rattle.scx_explore_states.specs.Rows.{entries_of, no_row, rows_of}
 use Rattle.scx_explore_states.specs.declared.map_words.MapWords.TheVariants.{Whole}
 use Rattle.scx_explore_states.specs.NotZero.{kept_words}
 use Rattle.scx_explore_states.specs.Words.{number_in}
@@ -102,17 +102,9 @@ abbrev pub usage_words : WorldState → List ℕ
 usage_words w =
     if has_quota w.tree.groups then w.clock ∷ used_words w.tree (length w.tree.groups) else []
 
--- what is kept of a processor under Linux rules: whether it may be chosen, is to look for work, and
--- its task is to lose its slice
-abbrev pub flags_word : WorldState → ℕ → ℕ
-flags_word w c =
-    bit_of (is_free w c)
-    + (2 * bit_of (is_in_set w.kicked c) + 4 * bit_of (is_in_set w.preempted c))
-
--- of each of the first n processors
-abbrev pub flags_words : WorldState → ℕ → List ℕ
-flags_words w zero = []
-flags_words w (suc n) = flags_words w n ++ flags_word w n ∷ []
+-- which processors are claimed, kicked and preempted
+abbrev pub marks_words : Marks → List ℕ
+marks_words m = m.claimed.0 ∷ m.kicked.0 ∷ m.preempted.0 ∷ []
 
 -- how far the clock is past a tick, in milliseconds; 0 where slices end exactly
 abbrev pub past_tick : ℕ → ℕ → ℕ
@@ -137,11 +129,11 @@ abbrev pub timer_words : WorldState → ℕ → List ℕ
 timer_words w zero = []
 timer_words w (suc n) = timer_words w n ++ alarm_words w.clock (alarm_at w n)
 
--- what is kept of each processor, and of each timer
+-- what is kept of all processors, and of each timer
 abbrev pub linux_words : WorldState → List ℕ
-linux_words w = flags_words w (length w.cpus) ++ timer_words w (length w.timers)
+linux_words w = marks_words (marks_of w) ++ timer_words w (length w.timers)
 
--- under Linux rules the clock from tick to tick, and what is kept of each processor and timer
+-- under Linux rules the clock from tick to tick, and what is kept of all processors and each timer
 abbrev pub rules_words : State → List ℕ
 rules_words s =
     if are_linux s.world.rules

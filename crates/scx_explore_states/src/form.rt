@@ -128,10 +128,10 @@ fn usage_words(sim: &Sim) -> usize
 
 /// The number of words under Linux rules beside those of plain ones.
 fn rules_words(sim: &Sim) -> usize
-    ensures { result ≤ 12884901888 }
+    ensures { result ≤ 8589934596 }
 {
     match sim.world().rules() {
         Rules::Plain => 0,
-        Rules::Linux => 1 + sim.cpus() as usize + 2 * sim.world().timers() as usize,
+        Rules::Linux => 4 + 2 * sim.world().timers() as usize,
     }
 }

@@ -2,7 +2,7 @@ ghost use Rattle.std.specs.Prelude.{ℕ, ◌≡◌, ◌+◌, ◌*◌, ◌/◌, �
 ghost use Rattle.scx_sched_world.specs.Helpers.{alarm_at, cpus_of};
 ghost use Rattle.scx_explore_states.specs.Rows.{entries_of};
 ghost use Rattle.scx_explore_states.specs.Words.{number_in};
-ghost use Rattle.scx_explore_states.specs.Written.{AreAlike, AreKnown, IsFair, IsWritten, alarm_words, cpu_of_alarm, flags_word, flags_words, home_at, joined, kept_word, linux_words, own_order, past_tick, row_in, row_words, rows_words, rules_words, spot_words, state_words, task_in, task_words, time_words, timer_words, until_due, usage_words, used_words};
+ghost use Rattle.scx_explore_states.specs.Written.{AreAlike, AreKnown, IsFair, IsWritten, alarm_words, cpu_of_alarm, home_at, joined, kept_word, linux_words, marks_words, own_order, past_tick, row_in, row_words, rows_words, rules_words, spot_words, state_words, task_in, task_words, time_words, timer_words, until_due, usage_words, used_words};
 
 use crate::form::{Form, MOST_TASKS};
 use crate::map_words::put_maps;
@@ -12,7 +12,7 @@ use crate::rows::{Row, kept_tasks, rows_by, rows_of};
 use crate::words::{Words, put};
 use scx_isa::{Field, Rules, TaskId};
 use scx_sched::{Entry, Sim};
-use scx_sched_world::Alarm;
+use scx_sched_world::{Alarm, Marks};
 use scx_vm::Env;
 
 /// The task at each place.
@@ -301,7 +301,7 @@ fn put_used(sim: &Sim, groups: u32, words: &mut Vec<u64>) -> bool
     true
 }
 
-/// Under Linux rules: the clock from tick to tick, the flags of each processor, and each timer.
+/// Under Linux rules: the clock from tick to tick, the marks of CPUs, and each timer.
 fn put_rules(sim: &Sim, words: &mut Vec<u64>) -> bool
     ensures { result ≡ true → words.new.items ≡ words.old.items ++ rules_words sim.now.state }
 {
@@ -311,7 +311,7 @@ fn put_rules(sim: &Sim, words: &mut Vec<u64>) -> bool
     }
 }
 
-/// The clock from tick to tick, the flags of each processor, and each timer.
+/// The clock from tick to tick, the marks of CPUs, and each timer.
 fn put_by_linux(sim: &Sim, words: &mut Vec<u64>) -> bool
     ensures { result ≡ true → words.new.items ≡ words.old.items
         ++ past_tick sim.now.state.policy.tick_ms sim.now.state.world.clock
@@ -321,19 +321,34 @@ fn put_by_linux(sim: &Sim, words: &mut Vec<u64>) -> bool
     if !put(words, past_tick(tick, clock)) {
         return false;
     }
-    put_marks(sim, words)
+    put_linux(sim, words)
 }
 
-/// The flags of each processor, and each timer.
-fn put_marks(sim: &Sim, words: &mut Vec<u64>) -> bool
+/// The marks of CPUs, and each timer.
+fn put_linux(sim: &Sim, words: &mut Vec<u64>) -> bool
     ensures { result ≡ true → words.new.items
         ≡ words.old.items ++ linux_words sim.now.state.world }
 {
-    let (cpus, timers) = (sim.cpus(), sim.world().timers());
-    if !put_flags(sim, cpus, words) {
+    let world = sim.world();
+    let (marks, timers) = (world.marks(), world.timers());
+    if !put_marks(marks, words) {
         return false;
     }
     put_timers(sim, timers, words)
+}
+
+/// The CPUs that are claimed, kicked and preempted.
+#[tactic(auto, using(crate::proofs::Putting::marks_parts))]
+fn put_marks(marks: Marks, words: &mut Vec<u64>) -> bool
+    ensures { result ≡ true → words.new.items ≡ words.old.items ++ marks_words marks }
+{
+    if !put(words, marks.claimed.bits()) {
+        return false;
+    }
+    if !put(words, marks.kicked.bits()) {
+        return false;
+    }
+    put(words, marks.preempted.bits())
 }
 
 /// The first `timers` timers.
@@ -387,28 +402,6 @@ fn past_tick(tick: u64, clock: u64) -> u64
     ensures { result ≡ past_tick tick clock }
 {
     if tick == 0 { 0 } else { clock % tick }
-}
-
-/// The flags of the first `cpus` processors.
-fn put_flags(sim: &Sim, cpus: u32, words: &mut Vec<u64>) -> bool
-    ensures { result ≡ true → words.new.items
-        ≡ words.old.items ++ flags_words sim.now.state.world cpus }
-{
-    for cpu in 0..cpus {
-        if !put(words, flags_of(sim, cpu)) {
-            return false;
-        }
-    }
-    true
-}
-
-/// A bit if the processor may be chosen, one if it is to look for work, and one if its task is to lose its slice.
-fn flags_of(sim: &Sim, cpu: u32) -> u64
-    ensures { result ≡ flags_word sim.now.state.world cpu }
-{
-    let world = sim.world();
-    u64::from(world.is_free(cpu))
-        + (2 * u64::from(world.is_kicked(cpu)) + 4 * u64::from(world.is_preempted(cpu)))
 }
 
 /// The row of the task at that place.
