@@ -1,4 +1,4 @@
--- What a helper but that of the clock answers and makes of a world is as later, in a world that is later.
+-- In a world that is later each helper but that of the clock answers alike, and makes of it a world that is later.
 use Rattle.std.proofs.Common.{◌≡◌, ℕ, zero, suc, ◌+◌, ◌-◌, ◌==◌, ◌&&◌, ◌||◌, not, is_none, Bool, true, false, cond, if◌then◌else◌, nat_lt, nat_le, List, length, map, Option, Some, None, refl, ap, ◌∙◌, arith}
 use Rattle.std.specs.Int.{bit_at}
 use Rattle.scx_dsq.specs.Laws.{one_if}

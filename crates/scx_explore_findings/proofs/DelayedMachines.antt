@@ -1,5 +1,5 @@
 -- A machine that is later answers events as later, and shows the same.
-use Rattle.std.proofs.Common.{◌≡◌, ℕ, ◌+◌, ◌*◌, ◌%◌, ◌<◌, ◌==◌, ◌&&◌, ◌||◌, not, min, Bool, false, cond, nat_lt, List, [], ◌∷◌, ◌++◌, length, map, Option, Some, None, refl, sym, ap, ◌∙◌, subst, arith}
+use Rattle.std.proofs.Common.{◌≡◌, ℕ, zero, suc, ◌+◌, ◌*◌, ◌%◌, ◌<◌, ◌==◌, ◌&&◌, ◌||◌, not, min, Bool, true, false, cond, nat_lt, List, [], ◌∷◌, ◌++◌, length, map, Option, Some, None, refl, sym, ap, ◌∙◌, subst, arith}
 use Rattle.scx_dsq.specs.declared.entries.Entry.{Entry}
 use Rattle.scx_dsq.specs.Queues.{queue_of, entry_of}
 use Rattle.scx_weights.specs.Hierarchy as tree
@@ -11,7 +11,8 @@ use Rattle.scx_sched_world.specs.declared.eject.Eject.{Eject}
 use Rattle.scx_sched_world.specs.declared.eject.Eject.TheVariants as cause
 use Rattle.scx_sched_world.specs.declared.notes.Note.{Note}
 use Rattle.scx_sched_world.specs.declared.timers.Alarm.{Alarm}
-use Rattle.scx_sched_world.specs.World.{WorldState, are_linux, may_run, task_at, cpu_of}
+use Rattle.scx_sched_world.specs.World.{WorldState, are_linux, marks_of, may_run, task_at, cpu_of}
+use Rattle.scx_sched_world.specs.Helpers.{alarm_at}
 use Rattle.scx_sched_machine.specs.declared.events.Event.{Event}
 use Rattle.scx_sched_machine.specs.declared.events.Refused.{Refused}
 use Rattle.scx_sched_machine.specs.declared.events.Refused.TheVariants.{RunOver}
@@ -21,10 +22,11 @@ use Rattle.scx_sched.specs.Sim.{SimState, max_events, refusal, stepped_if, after
 use Rattle.scx_explore_states.specs.declared.form.Form.{Form}
 use Rattle.scx_explore_states.specs.Rows.{kept, slice_kept, is_by_vtime, ahead_of, entries_of, place_of, is_idle, spot_of, bit_of, row_of, no_row, task_row, rows_of}
 use Rattle.scx_explore_states.specs.NotZero.{kept_words}
-use Rattle.scx_explore_states.specs.Written.{task_in, home_at, task_words, kept_word, time_words, usage_words, used_words, rules_words, past_tick, linux_words, map_words, state_words, IsWritten}
+use Rattle.scx_explore_states.specs.Written.{task_in, home_at, task_words, kept_word, time_words, usage_words, used_words, rules_words, past_tick, until_due, cpu_of_alarm, alarm_words, timer_words, marks_words, linux_words, map_words, state_words, IsWritten}
 use Rattle.scx_explore_findings.specs.Findings.{fault_in, stall_in, exit_in, is_left, waits_left, IsFirstLeft, IsIdleBehind}
-use Rattle.scx_explore_findings.specs.Delayed.{later_by, delayed_task, delayed_alarm, delayed_eject, delayed_note, delay, delay_state, delay_machine, AreClockless, IsSteady, EventsDontTellTimes}
+use Rattle.scx_explore_findings.specs.Delayed.{later_by, delayed_task, delayed_alarm, delayed_eject, delayed_note, delay, delay_state, delay_machine, AreClockless, IsSteady, IsWholeTicks, EventsDontTellTimes}
 use Rattle.scx_explore_findings.proofs.DelayedTasks.{as_long, found_at, as_late}
+use Rattle.scx_explore_findings.proofs.DelayedTicks.{past_as}
 use Rattle.scx_explore_findings.proofs.DelayedWorlds.{read, known, linux_as}
 use Rattle.scx_explore_findings.proofs.DelayedSteps.{Passes}
 use Rattle.scx_explore_findings.proofs.DelayedEvents.{refusal_as, passes_event}
@@ -36,9 +38,9 @@ module _ (k : ℕ) where
   pub refused_as : (s : SimState) (e : Event) → refusal s e ≡ refusal (delay_machine k s) e
   refused_as s e = ap (λ (o : Option Refused). cond (s.events == max_events) (Some RunOver) o) (refusal_as k s.state e)
 
-  module _ (s : SimState) (e : Event) (none : AreClockless s.state.policy) (exact : s.state.policy.tick_ms ≡ 0) (steady : IsSteady s.state) where
-    stepped_as : Passes k s.state.policy (event_step s.state e) (event_step (delay_state k s.state) e)
-    stepped_as = passes_event k s.state.policy none exact e s.state steady refl
+  module _ (s : SimState) (e : Event) (none : AreClockless s.state.policy) (whole : IsWholeTicks k s.state) (steady : IsSteady s.state) where
+    stepped_as : Passes k s.state.policy s.state.world.rules (event_step s.state e) (event_step (delay_state k s.state) e)
+    stepped_as = passes_event k s.state.policy s.state.world.rules none whole e s.state steady (refl, refl)
 
     -- and the machine after it is the one after it, later
     pub after_as : delay_machine k (after_event s e) ≡ after_event (delay_machine k s) e
@@ -140,11 +142,40 @@ module _ (k : ℕ) where
     rows_as w =
         λ i. task_row_as w 0 i ∷ task_row_as w 1 i ∷ task_row_as w 2 i ∷ task_row_as w 3 i ∷ task_row_as w 4 i ∷ task_row_as w 5 i ∷ task_row_as w 6 i ∷ task_row_as w 7 i ∷ []
 
+    -- a timer is due as long after the clock as it was
+    due_as : (now : ℕ) (o : Option Alarm) → until_due now o ≡ until_due (now + k) (delayed_alarm k o)
+    due_as now None = refl
+    due_as now (Some a) = omega arith
+
+    there_as : (o : Option Alarm) → cpu_of_alarm o ≡ cpu_of_alarm (delayed_alarm k o)
+    there_as None = refl
+    there_as (Some a) = refl
+
+    alarm_as : (now : ℕ) (o : Option Alarm) → alarm_words now o ≡ alarm_words (now + k) (delayed_alarm k o)
+    alarm_as now o =
+        ap (λ (n : ℕ). n ∷ cpu_of_alarm o ∷ []) (due_as now o)
+        ∙ ap (λ (c : ℕ). until_due (now + k) (delayed_alarm k o) ∷ c ∷ []) (there_as o)
+
+    timer_as : (w : WorldState) (n : ℕ) → alarm_words w.clock (alarm_at w n) ≡ alarm_words (w.clock + k) (alarm_at (delay k w) n)
+    timer_as w n = alarm_as w.clock (alarm_at w n) ∙ ap (λ (o : Option Alarm). alarm_words (w.clock + k) o) (found_at (delayed_alarm k) w.timers n None)
+
+    timers_as : (w : WorldState) (n : ℕ) → timer_words w n ≡ timer_words (delay k w) n
+    timers_as w zero = refl
+    timers_as w (suc n) =
+        ap (λ (xs : List ℕ). xs ++ alarm_words w.clock (alarm_at w n)) (timers_as w n)
+        ∙ ap (λ (xs : List ℕ). timer_words (delay k w) n ++ xs) (timer_as w n)
+
+    -- the same CPUs are claimed, kicked and preempted
+    marks_as : (w : WorldState) → linux_words w ≡ linux_words (delay k w)
+    marks_as w =
+        ap (λ (xs : List ℕ). marks_words (marks_of w) ++ xs) (timers_as w (length w.timers))
+        ∙ ap (λ (n : ℕ). marks_words (marks_of w) ++ timer_words (delay k w) n) (as_long (delayed_alarm k) w.timers)
+
     home_as : (w : WorldState) (t : ℕ) → home_at w t ≡ home_at (delay k w) t
     home_as w t = ap (λ (b : Bool). cond b (cond b (tree.home_of w.tree t) 0) 18446744073709551615) (known k w t)
 
-    -- a form that leaves out the clock, by plain rules, where no group has a quota
-    module _ (s : SimState) (no_clock : f.clock ≡ false) (rules : are_linux s.state.world.rules ≡ false) (free : has_quota s.state.world.tree.groups ≡ false) where
+    -- a form that leaves out the clock, by whole ticks under Linux rules, where no group has a quota
+    module _ (s : SimState) (no_clock : f.clock ≡ false) (whole : IsWholeTicks k s.state) (free : has_quota s.state.world.tree.groups ≡ false) where
       times_as : time_words f s.state.world ≡ time_words f (delay k s.state.world)
       times_as =
           let rest = kept_word f.pushes s.state.world.queues.pushes ++ kept_word f.random s.state.world.random in
@@ -155,14 +186,20 @@ module _ (k : ℕ) where
           let w = s.state.world in
           ap (λ (b : Bool). cond b (w.clock ∷ used_words w.tree (length w.tree.groups)) []) free ∙ sym (ap (λ (b : Bool). cond b ((w.clock + k) ∷ used_words w.tree (length w.tree.groups)) []) free)
 
-      none_by : (b : Bool) (xs : List ℕ) → b ≡ false → cond b xs [] ≡ []
-      none_by b xs e = ap (λ (c : Bool). cond c xs []) e
-
       rules_as : rules_words s.state ≡ rules_words (delay_state k s.state)
-      rules_as =
-          let here = past_tick s.state.policy.tick_ms s.state.world.clock ∷ linux_words s.state.world in
-          let there = past_tick s.state.policy.tick_ms (s.state.world.clock + k) ∷ linux_words (delay k s.state.world) in
-          none_by (are_linux s.state.world.rules) here rules ∙ sym (none_by (are_linux s.state.world.rules) there rules)
+      rules_as = go (are_linux s.state.world.rules) whole
+        where
+          tick : ℕ
+          tick = s.state.policy.tick_ms
+
+          now : ℕ
+          now = s.state.world.clock
+
+          go : (b : Bool) → (b ≡ true → past_tick tick k ≡ 0) → cond b (past_tick tick now ∷ linux_words s.state.world) [] ≡ cond b (past_tick tick (now + k) ∷ linux_words (delay k s.state.world)) []
+          go true is =
+              ap (λ (n : ℕ). n ∷ linux_words s.state.world) (sym (past_as tick now k (is refl)))
+              ∙ ap (λ (xs : List ℕ). past_tick tick (now + k) ∷ xs) (marks_as s.state.world)
+          go false is = refl
 
       -- what is kept beside the tasks
       rest_as : time_words f s.state.world ++ (usage_words s.state.world ++ (rules_words s.state ++ kept_words f.map_words (map_words s.state.maps)))
@@ -202,7 +239,7 @@ module _ (k : ℕ) where
 
 -- events of a machine that is later go as later
 pub events_dont_tell_times : EventsDontTellTimes
-events_dont_tell_times k s e none exact steady = record { refusal = refused_as k s e; after = after_as k s e none exact steady }
+events_dont_tell_times k s e none whole steady = record { refusal = refused_as k s e; after = after_as k s e none whole steady }
 
 -- ---- no later
 

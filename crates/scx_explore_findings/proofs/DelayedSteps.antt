@@ -2,6 +2,7 @@
 use Rattle.std.proofs.Common.{◌≡◌, ℕ, ◌+◌, List, [], ◌∷◌, ◌++◌, length, map, Option, Some, None, refl, sym, ap, ◌∙◌, subst}
 use mathlib.Core.List.{map-append}
 use Rattle.scx_isa_semantics.specs.declared.callbacks.Callback.{Callback}
+use Rattle.scx_isa_semantics.specs.declared.rules.Rules.{Rules}
 use Rattle.scx_isa_semantics.specs.Elements.{Maps}
 use Rattle.scx_isa_semantics.specs.Endings.{Ending}
 use Rattle.scx_vm.specs.Programs.{VerifiedProgram}
@@ -19,23 +20,28 @@ use Rattle.scx_sched_policy.specs.Policy.{PolicyState, program_of}
 use Rattle.scx_sched_machine.specs.Steps.{State, CallMade, Stepped, with_world, after, one_after_other}
 use Rattle.scx_sched_machine.specs.Ejecting.{moves_over, eject, ejected_for}
 use Rattle.scx_sched_machine.specs.Callbacks.{call_ending, after_callback, calls_of, cause_of, unless_ejected, acting, call_back, answered_by, noted_by}
+use Rattle.scx_sched.proofs.Unchanged.{same_called, eject_sets}
 use Rattle.scx_explore_findings.specs.Delayed.{later_eject, delayed_eject, delayed_note, delay, delay_state, delay_call, delay_step, IsClockless}
 use Rattle.scx_explore_findings.proofs.DelayedWorlds.{both, delays_move_over, move_notes_of, delays_cut}
 use Rattle.scx_explore_findings.proofs.DelayedRuns.{delay_ending, program_as}
 use Rattle.scx_explore_findings.proofs.PairedSteps.{cause_same}
 
-module _ (k : ℕ) (p : PolicyState) where
-  -- what one step comes to the other comes to later, under that policy still
+module _ (k : ℕ) (p : PolicyState) (rules : Rules) where
+  -- a state under that policy, by those rules
+  abbrev pub IsUnder : State → Type 0
+  IsUnder s = (s.policy ≡ p) × (s.world.rules ≡ rules)
+
+  -- what one step comes to the other comes to later, under that policy and by those rules still
   abbrev pub Passes : Stepped → Stepped → Type 0
-  Passes r q = (delay_step k r ≡ q) × (r.state.policy ≡ p)
+  Passes r q = (delay_step k r ≡ q) × IsUnder r.state
 
-  -- a step under that policy comes to the same later, from a state that is later
+  -- such a step comes to the same later, from a state that is later
   abbrev On : (State → Stepped) → Type 0
-  On f = (s : State) → s.policy ≡ p → Passes (f s) (f (delay_state k s))
+  On f = (s : State) → IsUnder s → Passes (f s) (f (delay_state k s))
 
-  -- two states of which the one is later, under that policy
+  -- two such states of which the one is later
   abbrev pub IsLater : State → State → Type 0
-  IsLater s t = (delay_state k s ≡ t) × (s.policy ≡ p)
+  IsLater s t = (delay_state k s ≡ t) × IsUnder s
 
   -- ---- how steps are made of others
 
@@ -75,7 +81,7 @@ module _ (k : ℕ) (p : PolicyState) where
   note_as (cause.Exit c n) = refl
 
   -- the policy is ejected
-  pub passes_eject : (x : Eject) (s : State) → s.policy ≡ p → Passes (eject s x) (eject (delay_state k s) (later_eject k x))
+  pub passes_eject : (x : Eject) (s : State) → IsUnder s → Passes (eject s x) (eject (delay_state k s) (later_eject k x))
   unfolding eject moves_over
   passes_eject x s is =
       let w = s.world in
@@ -84,7 +90,7 @@ module _ (k : ℕ) (p : PolicyState) where
         ap (λ (u : WorldState). made (delay_state k s) u (map (delayed_note k) (note_now w (eject_note x) ∷ evict_notes (length w.tasks) (put_out w x)))) (delays_behind x w)
             ∙ ap (λ (ns : List Note). at (note_now (delay k w) (eject_note x) ∷ ns)) (move_notes_of k (put_out w x))
             ∙ ap (λ (e : What). at (note_now (delay k w) e ∷ evict_notes (length (delay k w).tasks) (put_out (delay k w) y))) (note_as x),
-        is,
+        (is.0, (eject_sets s x).4 ∙ is.1),
       )
 
   later_of : (x : Cause) (n : ℕ) → later_eject k (eject_of x n) ≡ eject_of x (n + k)
@@ -150,7 +156,7 @@ module _ (k : ℕ) (p : PolicyState) where
     abbrev ended : PolicyState → List CallMade → Ending WorldState → Stepped
     ended q cs e = record { state = after_callback q e; notes = e.outside.notes; calls = cs }
 
-    ended_as : (q : PolicyState) (cs ds : List CallMade) (e f : Ending WorldState) → q ≡ p → map (delay_call k) cs ≡ ds → delay_ending k e ≡ f → Passes (ended q cs e) (ended q ds f)
+    ended_as : (q : PolicyState) (cs ds : List CallMade) (e f : Ending WorldState) → IsUnder (after_callback q e) → map (delay_call k) cs ≡ ds → delay_ending k e ≡ f → Passes (ended q cs e) (ended q ds f)
     ended_as q cs ds e f is x y =
         (ap (λ (us : List CallMade). ended q us (delay_ending k e)) x ∙ ap (λ (u : Ending WorldState). ended q ds u) y, is)
 
@@ -164,7 +170,7 @@ module _ (k : ℕ) (p : PolicyState) where
         let cs = calls_of (acting s b) b a s.maps w in
         let ds = calls_of (acting (delay_state k s) b) b a s.maps (at_callback (delay k s.world) b t c) in
         let same = calls_as (acting s b) b a s.maps w ∙ ap (λ (q : Option VerifiedProgram). calls_of q b a s.maps (at_callback (delay k s.world) b t c)) (acting_as s b) in
-        let at : delay_ending k e ≡ f = end_as s b a t c is in
-        let first = ended_as s.policy cs ds e f is same at in
+        let at : delay_ending k e ≡ f = end_as s b a t c is.0 in
+        let first = ended_as s.policy cs ds e f (is.0, (same_called (acting s b) b a s.maps w).4 ∙ is.1) same at in
         subst (λ (o : Option Cause). Passes (one_after_other (ended s.policy cs e) (ejected_for (cause_of b e) (after_callback s.policy e))) (one_after_other (ended s.policy ds f) (ejected_for o (after_callback s.policy f))))
         (cause_same b e f (ap (λ (x : Ending WorldState). x.answer) at) (ap (λ (x : Ending WorldState). x.outside.call.cause) at) (ap (λ (x : Ending WorldState). x.outside.cpus) at)) (chain (ended s.policy cs e) (ended s.policy ds f) (ejected_for (cause_of b e)) first (passes_ejected_for (cause_of b e)))

@@ -166,7 +166,7 @@ module _ (h : Omitted) (p : PolicyState) where
     kicked = λ linux. ap (λ (y : State). y.world.kicked) e;
     preempted = λ linux. ap (λ (y : State). y.world.preempted) e;
     timers = ap (λ (y : State). length y.world.timers) e;
-    ticks = ap (λ (y : State). is_tick_time y) e;
+    ticks = λ linux. ap (λ (y : State). is_tick_time y) e;
     idle = λ c. ap (λ (y : State). is_idle y.world c) e;
     homes = λ u. alike (λ y. (task_at y.world u).prev_cpu) (λ y. read h (λ v. v.prev_cpu) (λ v. refl) (λ v. refl) y.world u) s t e;
     first_homes = λ u. ap (λ (y : State). first_home y.world u) e;

@@ -39,6 +39,7 @@ use Rattle.scx_sched_policy.specs.Policy.{PolicyState, IsTimeout}
 use Rattle.scx_sched_machine.specs.Start.{is_bad_shape, by_policy, blank, first_state}
 use Rattle.scx_sched_machine.specs.Steps.{State}
 use Rattle.scx_sched_machine.proofs.Choices.{keeps_if}
+use Rattle.scx_sched.proofs.Alarms.{timers_first}
 use Rattle.scx_sched.proofs.Begins.{left_by, keeps_started}
 use Rattle.scx_sched.proofs.First.{fine_started, time_started}
 use Rattle.scx_sched.proofs.Still.{still_first}
@@ -218,6 +219,7 @@ module _ (p : PolicyState) (tree : Hierarchy) (cpus : ℕ) where
         events = 0;
         fine = fine_now (length tree.homes) (replicate cpus None) s.state.world (fine_started p tree cpus s.state shape flags first.0);
         timely = time_started s.state.policy.timeout_ms p tree cpus s.state shape first.0;
+        timers = timers_first p tree cpus s.state shape first.0;
         still = still.0;
         settled = still.1;
         rules = refl;

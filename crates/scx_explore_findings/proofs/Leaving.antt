@@ -1,4 +1,4 @@
--- What is left out of the records of tasks, by who runs and waits where: small steps lead from two worlds that are the same
+-- Parts of the records of tasks are left out, by who runs and waits where: small steps lead from two worlds that are the same
 -- but for that to two such worlds.
 use Rattle.std.proofs.Common.{◌≡◌, ℕ, ◌==◌, cond, false, List, length, Option, Some, None, unwrap_or, sym, ap, ◌∙◌}
 use Rattle.scx_dsq.specs.Calls.{after_create, after_push}

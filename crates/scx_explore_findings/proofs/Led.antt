@@ -7,6 +7,8 @@ use Rattle.scx_sched_machine.specs.Events as machine
 use Rattle.scx_sched_policy.specs.Policy.{PolicyState}
 use Rattle.scx_sched.specs.Ranges.{IsFine}
 use Rattle.scx_sched.specs.Sim.{SimState, refusal, stepped_if, after_event}
+use Rattle.scx_sched.specs.Timers.{AreTimersLater}
+use Rattle.scx_sched.proofs.Alarms.{timers_step}
 use Rattle.scx_sched.proofs.Deciding.{accepted, decides}
 use Rattle.scx_sched.proofs.Events.{fine_step}
 use Rattle.scx_sched.proofs.Still.{still_step}
@@ -52,6 +54,7 @@ module _ (shapes : List Shape) (root : SimState) where
         events = k + 1;
         fine = subst (λ (x : SimState). IsFine n (k + 1) (k + 1) None x.state.world.cpus x.state.world) (sym made) (fine_step n k s.state e h.fine.sound.tasks taken h.fine);
         timely = subst (λ (x : SimState). IsInTime x.state.policy.timeout_ms x.state.world) (sym made) (subst (λ (q : PolicyState). IsInTime q.timeout_ms new.world) (sym decided.policy) time);
+        timers = subst (λ (x : SimState). AreTimersLater x.state.world) (sym made) (timers_step n k s.state e h.fine.sound.tasks taken h.fine h.timers);
         still = ap (λ (x : SimState). x.state.world.cycling) made ∙ still.0;
         settled = ap (λ (x : SimState). x.state.world.passing) made ∙ still.1;
         rules = ap (λ (x : SimState). x.state.world.rules) made ∙ (decided.rules ∙ h.rules);
@@ -86,6 +89,7 @@ module _ (shapes : List Shape) (root : SimState) where
         tidy = h.tidy;
         queues = h.queues;
         maps = h.maps;
+        timers = h.timers;
         random = h.random;
         order = λ may k. waiting_is (entry_of s.state.world.queues k) ((h.order may force).0 k);
       }

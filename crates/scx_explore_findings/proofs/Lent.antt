@@ -137,6 +137,7 @@ module _ (shapes : List Shape) (root s t : SimState) (h : IsLed shapes root s) w
           not_yet = λ force. ((f.not_yet force).0, λ k. built_same k ∙ (f.not_yet force).1 k);
         };
         timely = λ force k. subst (λ (o : Option ℕ). time_since s.state.world.clock o ≤ s.state.policy.timeout_ms) (sym (since_same k)) (h.timely force k);
+        timers = h.timers;
         still = h.still;
         settled = h.settled;
         rules = h.rules;

@@ -54,7 +54,11 @@ pub mod RunsTold
 pub mod Between
 pub mod RandomWalk
 pub mod Tidying
+pub mod DelayedTicks
+pub mod RulesKept
 pub mod DelayedTasks
+pub mod LinuxTold
+pub mod TicksTold
 pub mod DelayedWorlds
 pub mod DelayedHelpers
 pub mod DelayedRuns

@@ -1,4 +1,4 @@
--- What is left out of worlds: parts of the record of each task, and slices of tasks that sleep or are held.
+-- Worlds without some parts: parts of the record of each task, and slices of tasks that sleep or are held.
 use Rattle.std.proofs.Common.{◌≡◌, ℕ, suc, ◌==◌, ◌&&◌, ◌||◌, not, Bool, true, false, List, [], ◌∷◌, length, map, set, get_or, position, refl, sym, ap, ◌∙◌, subst, ◌⊎◌, inl, inr}
 use Rattle.std.proofs.lemmas.Bool.{eqb-true}
 use Rattle.scx_isa_semantics.specs.declared.callbacks.Callback.{Callback}

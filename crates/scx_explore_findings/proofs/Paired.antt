@@ -58,7 +58,7 @@ pub record ReadAlike (z : Relation) (s t : State) : Type 0 where
   pub kicked : is_by_linux s ≡ true → s.world.kicked ≡ t.world.kicked
   pub preempted : is_by_linux s ≡ true → s.world.preempted ≡ t.world.preempted
   pub timers : length s.world.timers ≡ length t.world.timers
-  pub ticks : is_tick_time s ≡ is_tick_time t
+  pub ticks : is_by_linux s ≡ true → is_tick_time s ≡ is_tick_time t
   pub idle : (c : ℕ) → is_idle s.world c ≡ is_idle t.world c
   pub homes : (u : ℕ) → (task_at s.world u).prev_cpu ≡ (task_at t.world u).prev_cpu
   pub first_homes : (u : ℕ) → first_home s.world u ≡ first_home t.world u

@@ -29,7 +29,7 @@ use Rattle.scx_explore_findings.specs.HiddenStates.{once_let_go, late_in}
 use Rattle.scx_explore_findings.specs.IdleSlices.{runs_on}
 use Rattle.scx_explore_findings.proofs.IdleTasks.{on_that, on_one}
 use Rattle.scx_explore_findings.proofs.Paired.{Relation, SameCpu, From, On, Turns, IsPaired, IsPairedWhole, Alone, Counted, Early}
-use Rattle.scx_explore_findings.proofs.PairedSteps.{two_if, ended, chain, pair_told, pair_call_by_linux, pair_enters, pair_put, linux_and}
+use Rattle.scx_explore_findings.proofs.PairedSteps.{two_if, ended, chain, pair_told, pair_call_by_linux, pair_enters, pair_put}
 use Rattle.scx_explore_findings.proofs.PairedCycles.{Told, pair_dequeued, pair_stopping, pair_cycle, pair_round, pair_with_rounds}
 
 -- the same task or none waits too long, if so it is once the clock has grown
@@ -40,6 +40,14 @@ late_by s t (Tick c) same = refl
 late_by s t Clock same = same refl
 late_by s t (SetWeight g x) same = refl
 late_by s t (SetTaskWeight u x) same = refl
+
+-- what is asked of a state only if a test says yes
+asked_if : (f : Bool → Bool → Bool) (a b x y : Bool) → ((c d : Bool) → f false c ≡ f false d) → a ≡ b → (a ≡ true → x ≡ y) → f a x ≡ f b y
+asked_if f a b x y none same alike = go a alike ∙ ap (λ (c : Bool). f c y) same
+  where
+    go : (c : Bool) → (c ≡ true → x ≡ y) → f c x ≡ f c y
+    go true so = ap (f true) (so refl)
+    go false so = none x y
 
 module _ (z : Relation) (n : IsPairedWhole z) where
   abbrev k : IsPaired z
@@ -306,7 +314,7 @@ module _ (z : Relation) (n : IsPairedWhole z) where
 
   ends_same : (s t : State) → z.states false s t → ends_slices s ≡ ends_slices t
   unfolding ends_slices
-  ends_same s t e = let x = k.reads s t e in ap (λ (b : Bool). not b || is_tick_time s) x.linux ∙ ap (λ (b : Bool). not (is_by_linux t) || b) x.ticks
+  ends_same s t e = let x = k.reads s t e in asked_if (λ b c. not b || c) (is_by_linux s) (is_by_linux t) (is_tick_time s) (is_tick_time t) (λ c d. refl) x.linux x.ticks
 
   pair_expire : (c u : ℕ) → z.told u → On z false (λ s. expire s c u)
   unfolding expire
@@ -326,8 +334,10 @@ module _ (z : Relation) (n : IsPairedWhole z) where
   hears_same : (s t : State) → z.states false s t → hears_tick s ≡ hears_tick t
   unfolding hears_tick
   hears_same s t e =
+      let x = k.reads s t e in
       let hears : PolicyState → Bool = λ p. is_some (program_of p callback.Tick) in
-      ap (λ (b : Bool). b && is_tick_time s) (linux_and z k hears s t e) ∙ ap (λ (b : Bool). (is_by_linux t && hears t.policy) && b) (k.reads s t e).ticks
+      ap (λ (p : PolicyState). (is_by_linux s && hears p) && is_tick_time s) x.policy
+      ∙ asked_if (λ b c. (b && hears t.policy) && c) (is_by_linux s) (is_by_linux t) (is_tick_time s) (is_tick_time t) (λ c d. refl) x.linux x.ticks
 
   pair_tick_heard : (c u : ℕ) → z.told u → On z false (λ s. tick_heard s c u)
   unfolding tick_heard

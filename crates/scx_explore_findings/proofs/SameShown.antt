@@ -8,8 +8,7 @@ use Rattle.scx_dsq.specs.Entries.{key_of}
 use Rattle.scx_dsq.specs.Queues.{entry_of}
 use Rattle.scx_weights.specs.Limits.{has_quota}
 use Rattle.scx_sched_world.specs.declared.cpu_set.CpuSet.{CpuSet}
-use Rattle.scx_sched_world.specs.CpuSets.{is_in_set}
-use Rattle.scx_sched_world.specs.World.{WorldState, are_linux, is_free, running, task_at, cpu_of, wait, may_run}
+use Rattle.scx_sched_world.specs.World.{WorldState, are_linux, running, task_at, cpu_of, wait, may_run}
 use Rattle.scx_sched_world.specs.Helpers.{alarm_at}
 use Rattle.scx_sched_machine.specs.declared.events.Event.{Event}
 use Rattle.scx_sched_machine.specs.Steps.{State}
@@ -18,7 +17,7 @@ use Rattle.scx_explore_states.specs.declared.form.Form.{Form}
 use Rattle.scx_explore_states.specs.Rows.{bit_of, kept, slice_kept, waiting_key, by_vtime_in, is_by_vtime, is_ahead, ahead_of, entries_of, place_of, is_idle, spot_of, row_of, no_row, task_row, rows_of}
 use Rattle.scx_explore_states.specs.Words.{number_in}
 use Rattle.scx_explore_states.specs.NotZero.{kept_words}
-use Rattle.scx_explore_states.specs.Written.{kept_word, task_words, used_words, usage_words, flags_word, flags_words, alarm_words, timer_words, linux_words, past_tick, map_words, state_words, AreKnown, IsWritten}
+use Rattle.scx_explore_states.specs.Written.{kept_word, task_words, used_words, usage_words, alarm_words, timer_words, linux_words, past_tick, map_words, state_words, AreKnown, IsWritten}
 use Rattle.scx_explore_findings.specs.Findings.{is_left, leaves_global, waits_left, IsIdleBehind}
 use Rattle.scx_explore_findings.specs.declared.finding.Finding.{Finding}
 use Rattle.scx_explore_findings.specs.QueueOrder.{rank_left, unnumbered, leads}
@@ -140,15 +139,6 @@ module _ (f : Form) (no_pushes : f.pushes ≡ false) (ids : List ℕ) (w : World
   rows_same : rows_of f w ids ≡ rows_of f (with_parts w z) ids
   rows_same = λ i. task_row_same 0 i ∷ task_row_same 1 i ∷ task_row_same 2 i ∷ task_row_same 3 i ∷ task_row_same 4 i ∷ task_row_same 5 i ∷ task_row_same 6 i ∷ task_row_same 7 i ∷ []
 
-  -- the flags of processors, if kicks are the same
-  flags_same : w.kicked ≡ z.kicked → w.preempted ≡ z.preempted → (n : ℕ) → flags_words w n ≡ flags_words (with_parts w z) n
-  flags_same k p zero = refl
-  flags_same k p (suc n) =
-      let v = with_parts w z in
-      ap (λ (l : List ℕ). l ++ flags_word w n ∷ []) (flags_same k p n)
-      ∙ (ap (λ (x : CpuSet). flags_words v n ++ (bit_of (is_free w n) + (2 * bit_of (is_in_set x n) + 4 * bit_of (is_in_set w.preempted n))) ∷ []) k
-      ∙ ap (λ (x : CpuSet). flags_words v n ++ (bit_of (is_free w n) + (2 * bit_of (is_in_set z.kicked n) + 4 * bit_of (is_in_set x n))) ∷ []) p)
-
   -- the usages of groups, if one has a quota
   usages_same : usage_words w ≡ usage_words (with_parts w z)
   usages_same = words_where (has_quota w.tree.groups) _ _ (λ e. ap (λ (us : List ℕ). w.clock ∷ used_words (record w.tree { usages = us }) (length w.tree.groups)) (m.usages e))
@@ -161,8 +151,9 @@ module _ (f : Form) (no_pushes : f.pushes ≡ false) (ids : List ℕ) (w : World
   linux_same : (past : ℕ) → cond (are_linux w.rules) (past ∷ linux_words w) [] ≡ cond (are_linux w.rules) (past ∷ linux_words (with_parts w z)) []
   linux_same past =
       words_where (are_linux w.rules) _ _
-      (λ e. ap (λ (l : List ℕ). past ∷ (l ++ timer_words w (length w.timers))) (flags_same (m.kicked e) (m.preempted e) (length w.cpus))
-      ∙ ap (λ (l : List ℕ). past ∷ (flags_words (with_parts w z) (length w.cpus) ++ l)) (timers_same (length w.timers)))
+      (λ e. ap (λ (x : CpuSet). past ∷ (w.claimed.0 ∷ x.0 ∷ w.preempted.0 ∷ timer_words w (length w.timers))) (m.kicked e)
+      ∙ (ap (λ (x : CpuSet). past ∷ (w.claimed.0 ∷ z.kicked.0 ∷ x.0 ∷ timer_words w (length w.timers))) (m.preempted e)
+      ∙ ap (λ (l : List ℕ). past ∷ (w.claimed.0 ∷ z.kicked.0 ∷ z.preempted.0 ∷ l)) (timers_same (length w.timers))))
 
   -- an entry that is known is known without its order number, and the other way round
   abbrev Known : Option Entry → Type 0

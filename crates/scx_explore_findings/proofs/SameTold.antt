@@ -1,5 +1,5 @@
 -- Two machines that are written as the same words, by a form that keeps everything, are the same but for unread parts, once one is as late as the other.
-use Rattle.std.proofs.Common.{◌≡◌, ℕ, zero, suc, ◌+◌, ◌%◌, ◌<◌, ◌≤◌, ◌==◌, ◌&&◌, ◌||◌, if◌then◌else◌, Bool, true, false, not, cond, List, [], ◌∷◌, length, map, drop, get_or, Option, Some, None, is_some, refl, sym, ap, ◌∙◌, subst, arith, ⊎_elim}
+use Rattle.std.proofs.Common.{◌≡◌, ℕ, zero, suc, ◌+◌, ◌%◌, ◌<◌, ◌≤◌, ◌==◌, ◌&&◌, ◌||◌, if◌then◌else◌, Bool, true, false, not, List, [], ◌∷◌, length, map, drop, get_or, Option, Some, None, is_some, is_none, refl, sym, ap, ◌∙◌, subst, arith, ⊎_elim}
 use Rattle.std.specs.Prelude.{min, IfSome, option_map}
 use Rattle.std.proofs.lemmas.Bool.{cases_lt, eqb-true}
 use Rattle.std.proofs.lemmas.List.{length-append, ext_get_or}
@@ -17,12 +17,13 @@ use Rattle.scx_sched_tasks.specs.Tasks.{no_task}
 use Rattle.scx_sched_tasks.specs.Waits.{time_since}
 use Rattle.scx_sched_world.specs.declared.notes.Note.{Note}
 use Rattle.scx_sched_world.specs.declared.timers.Alarm.{Alarm}
-use Rattle.scx_sched_world.specs.World.{WorldState, are_linux, nothing_passes, task_at, waits_in, wait, is_this, cpu_of}
+use Rattle.scx_sched_world.specs.World.{WorldState, are_linux, is_by_linux, nothing_passes, task_at, waits_in, wait, is_this, cpu_of}
 use Rattle.scx_sched_world.specs.Tasks.{with_slice}
 use Rattle.scx_sched_policy.specs.Policy.{PolicyState}
 use Rattle.scx_sched.specs.Once.{IsOnce, IsSound}
 use Rattle.scx_sched.specs.Ranges.{IsFresh}
 use Rattle.scx_sched.specs.Sim.{SimState}
+use Rattle.scx_sched.specs.Timers.{AreTimersLater}
 use Rattle.scx_explore_states.specs.declared.form.Form.{Form}
 use Rattle.scx_explore_states.specs.Rows.{kept, bit_of, is_endless, slice_kept, waiting_key, ahead_of, entries_of, place_of, is_idle}
 use Rattle.scx_explore_states.specs.Telling.{AreOfOneShape, IsKeptAlike, KeepTheSame, place_at}
@@ -30,13 +31,13 @@ use Rattle.scx_explore_states.specs.Words.{most_queues, number_in}
 use Rattle.scx_explore_states.specs.Written.{used_words, AreKnown, IsWritten}
 use Rattle.scx_explore_states.proofs.Telling.{words_tell}
 use Rattle.scx_explore_findings.specs.Between.{IsQuiet}
-use Rattle.scx_explore_findings.specs.Delayed.{later_by, delayed_task, delayed_alarm, delayed_eject, delayed_note, delay_machine}
+use Rattle.scx_explore_findings.specs.Delayed.{IsWholeTicks, later_by, delayed_task, delayed_alarm, delayed_eject, delayed_note, delay_machine}
 use Rattle.scx_explore_findings.specs.QueueOrder.{place_in, leads, unnumbered, AreAsQueues}
 use Rattle.scx_explore_findings.specs.Hidden.{Hidden, unless, since_unless, hidden_in, all_hidden, with_tasks}
 use Rattle.scx_explore_findings.specs.HiddenMachines.{hide_machine}
 use Rattle.scx_explore_findings.specs.UnreadParts.{AreSame}
 use Rattle.scx_explore_findings.specs.FifoOnly.{InsertInOrder}
-use Rattle.scx_explore_findings.specs.WholeForms.{DrawNone, IsWholeBy, IsPlain, IsSince, IsTidy, AreMapsOf}
+use Rattle.scx_explore_findings.specs.WholeForms.{DrawNone, IsWholeBy, HasFew, IsSince, IsTidy, AreMapsOf}
 use Rattle.scx_explore_findings.specs.IdleSlices as idle
 use Rattle.scx_explore_findings.specs.IdleSlices.{runs_on, is_put_nowhere, is_idle_of, sliceless_if, without_slices, any_task}
 use Rattle.scx_explore_findings.proofs.IdleRecords.{read_at, length_same}
@@ -48,6 +49,8 @@ use Rattle.scx_explore_findings.proofs.PlacesTold.{IsSmall, IsKnown, place_tells
 use Rattle.scx_explore_findings.proofs.CpusTold.{cpus_told}
 use Rattle.scx_explore_findings.proofs.TasksTold.{since_told, task_told}
 use Rattle.scx_explore_findings.proofs.MapsTold.{last_two}
+use Rattle.scx_explore_findings.proofs.LinuxTold.{AreToldAlike, kept_both, linux_told, timers_told}
+use Rattle.scx_explore_findings.proofs.TicksTold.{ticks_told}
 use Rattle.scx_explore_findings.proofs.Lent.{lent_slice, lent_is, lent_at, lent, lent_task, lent_long}
 use Rattle.scx_explore_findings.proofs.KeysTold.{maps_told}
 use Rattle.scx_explore_findings.proofs.RunsTold.{cpu_there, run_once, runner_waits_not, runnable_told}
@@ -68,6 +71,7 @@ pub record IsSuited (shapes : List Shape) (root s : SimState) : Type 0 where
   pub tidy : IsTidy root.state.world.tree s.state.world
   pub queues : queues.IsSound s.state.world.queues
   pub maps : AreMapsOf shapes s.state.maps
+  pub timers : AreTimersLater s.state.world
   pub random : DrawNone root.state.policy → s.state.world.random ≡ root.state.world.random
   pub order : InsertInOrder root.state.policy → (k : ℕ) → waiting_key (entry_of s.state.world.queues k) ≡ 0
 
@@ -130,6 +134,10 @@ no_timers [] [] n m = refl
 no_timers [] (y ∷ ys) n m = absurd (omega (arith, m))
 no_timers (x ∷ xs) ys n m = absurd (omega (arith, n))
 
+-- the policy is in force under Linux rules
+in_force : (w : WorldState) → are_linux w.rules ≡ true → w.ejected ≡ None → is_by_linux w ≡ true
+in_force w linux none = λ i. linux i && is_none (none i)
+
 leads_past : (o : Option Entry) → leads o None ≡ false
 leads_past None = refl
 leads_past (Some p) = refl
@@ -157,16 +165,6 @@ usages_told x y (suc n) e k l =
     let is : n ≡ k = omega (arith, more, l) in
     subst (λ (j : ℕ). usage_of x j ≡ usage_of y j) is two.1)
     (cases_lt k n)
-
-quota_words : (b c : Bool) (xs ys : List ℕ) (n m : ℕ) → b ≡ true → c ≡ true → cond b (n ∷ xs) [] ≡ cond c (m ∷ ys) [] → xs ≡ ys
-quota_words true true xs ys n m e f same = ap (λ (l : List ℕ). drop 1 l) same
-quota_words true false xs ys n m e f same = absurd (false_isnt_so f)
-quota_words false c xs ys n m e f same = absurd (false_isnt_so e)
-
-quota_clock : (b c : Bool) (xs ys : List ℕ) (n m : ℕ) → b ≡ true → c ≡ true → cond b (n ∷ xs) [] ≡ cond c (m ∷ ys) [] → n ≡ m
-quota_clock true true xs ys n m e f same = ap (λ (l : List ℕ). get_or l 0 0) same
-quota_clock true false xs ys n m e f same = absurd (false_isnt_so f)
-quota_clock false c xs ys n m e f same = absurd (false_isnt_so e)
 
 still_since : (now d : ℕ) (o : Option ℕ) → IsSince now o → IsSince (now + d) (later_by d o)
 still_since now d None l = tt
@@ -272,7 +270,7 @@ of_one_shape shapes root s t hs ht = record {
 pub words_keep : (shapes : List Shape) (root : SimState) (f : Form) (ids xs : List ℕ) → f.names ≡ true → length ids ≤ most_queues → (s t : SimState) → IsSuited shapes root s → IsSuited shapes root t → IsWritten f ids xs s → IsWritten f ids xs t → KeepTheSame f ids s t
 words_keep shapes root f ids xs names few s t hs ht is it = words_tell f ids xs s t names few (of_one_shape shapes root s t hs ht) is it
 
-module _ (Ask : (Query → Type 0) → PolicyState → Type 0) (Tell : PolicyState → Type 0) (shapes : List Shape) (root : SimState) (plain : IsPlain root) (f : Form) (ids : List ℕ) (whole : IsWholeBy Ask Tell root.state.policy f) (s t : SimState) (hs : IsSuited shapes root s) (ht : IsSuited shapes root t) (known : AreKnown ids (entries_of s.state.world)) (known_there : AreKnown ids (entries_of t.state.world)) (told : KeepTheSame f ids s t) where
+module _ (Ask : (Query → Type 0) → PolicyState → Type 0) (Tell : PolicyState → Type 0) (shapes : List Shape) (root : SimState) (counts : HasFew root) (f : Form) (ids : List ℕ) (whole : IsWholeBy Ask Tell root.state.policy f) (s t : SimState) (hs : IsSuited shapes root s) (ht : IsSuited shapes root t) (known : AreKnown ids (entries_of s.state.world)) (known_there : AreKnown ids (entries_of t.state.world)) (told : KeepTheSame f ids s t) where
   abbrev v : WorldState
   v = s.state.world
 
@@ -286,13 +284,13 @@ module _ (Ask : (Query → Type 0) → PolicyState → Type 0) (Tell : PolicySta
   shape = of_one_shape shapes root s t hs ht
 
   each : (k : ℕ) → k < m → IsKeptAlike f ids v w k
-  each k l = told.tasks k (below_eight k m l plain.tasks) (subst (λ (j : ℕ). k < j) hs.size.0 l)
+  each k l = told.tasks k (below_eight k m l counts.tasks) (subst (λ (j : ℕ). k < j) hs.size.0 l)
 
   few_cpus : length v.cpus ≤ 16
-  few_cpus = subst (λ (j : ℕ). j ≤ 16) hs.size.1 plain.cpus
+  few_cpus = subst (λ (j : ℕ). j ≤ 16) hs.size.1 counts.cpus
 
   few_there : length w.cpus ≤ 16
-  few_there = subst (λ (j : ℕ). j ≤ 16) ht.size.1 plain.cpus
+  few_there = subst (λ (j : ℕ). j ≤ 16) ht.size.1 counts.cpus
 
   small : (x : WorldState) → length x.cpus ≤ 16 → (k : ℕ) → IsSmall (cpu_of x k)
   small x most k = go (cpu_of x k) refl
@@ -326,7 +324,7 @@ module _ (Ask : (Query → Type 0) → PolicyState → Type 0) (Tell : PolicySta
           let there = entry_of w.queues k in
           let place : place_of ids None here ≡ place_of ids None there =
           ap (λ (c : Option ℕ). place_of ids c here) (sym e) ∙ ((each k l).place ∙ ap (λ (c : Option ℕ). place_of ids c there) (sym (cpu_same k l) ∙ e)) in
-          place_tells_entry ids here there (known_at ids v known k (below_eight k m l plain.tasks)) (known_at ids w known_there k (below_eight k m l plain.tasks)) place (each k l).by_vtime
+          place_tells_entry ids here there (known_at ids v known k (below_eight k m l counts.tasks)) (known_at ids w known_there k (below_eight k m l counts.tasks)) place (each k l).by_vtime
           (key_same k l)
 
   none_past : (u : ℕ) → m ≤ u → entry_of v.queues u ≡ None
@@ -352,12 +350,12 @@ module _ (Ask : (Query → Type 0) → PolicyState → Type 0) (Tell : PolicySta
       ⊎_elim (λ (l : a < 8).
       ⊎_elim (λ (k : b < 8). order_told v.queues w.queues hs.queues.stamps ht.queues.stamps places ahead a b l k)
       (λ (k : 8 ≤ b).
-      ap (leads (entry_of v.queues a)) (none_past b (past b m k plain.tasks)) ∙ (leads_past (entry_of v.queues a)
-      ∙ sym (ap (leads (entry_of w.queues a)) (none_past_there b (past b m k plain.tasks)) ∙ leads_past (entry_of w.queues a))))
+      ap (leads (entry_of v.queues a)) (none_past b (past b m k counts.tasks)) ∙ (leads_past (entry_of v.queues a)
+      ∙ sym (ap (leads (entry_of w.queues a)) (none_past_there b (past b m k counts.tasks)) ∙ leads_past (entry_of w.queues a))))
       (cases_lt b 8))
       (λ (l : 8 ≤ a).
-      ap (λ (x : Option Entry). leads x (entry_of v.queues b)) (none_past a (past a m l plain.tasks))
-      ∙ sym (ap (λ (x : Option Entry). leads x (entry_of w.queues b)) (none_past_there a (past a m l plain.tasks))))
+      ap (λ (x : Option Entry). leads x (entry_of v.queues b)) (none_past a (past a m l counts.tasks))
+      ∙ sym (ap (λ (x : Option Entry). leads x (entry_of w.queues b)) (none_past_there a (past a m l counts.tasks))))
       (cases_lt a 8)
 
   queues_same : AreAsQueues v.queues w.queues
@@ -384,27 +382,41 @@ module _ (Ask : (Query → Type 0) → PolicyState → Type 0) (Tell : PolicySta
       ext_get_or false v.tree.active w.tree.active (hs.sound.flags ∙ sym ht.sound.flags)
       (λ k l. runnable_told v w hs.sound.once ht.sound.once cpus_same k (waits_alike (entry_of v.queues k) (entry_of w.queues k) (places k)))
 
+  usages_kept : has_quota v.tree.groups ≡ true → v.clock ∷ used_words v.tree (length v.tree.groups) ≡ w.clock ∷ used_words w.tree (length w.tree.groups)
+  usages_kept e =
+      kept_both (has_quota v.tree.groups) (has_quota w.tree.groups) (v.clock ∷ used_words v.tree (length v.tree.groups)) (w.clock ∷ used_words w.tree (length w.tree.groups)) e (ap has_quota (sym shape.groups) ∙ e) told.usages
+
   usages_same : has_quota v.tree.groups ≡ true → v.tree.usages ≡ w.tree.usages
   usages_same e =
       let groups = length v.tree.groups in
-      let words : used_words v.tree groups ≡ used_words w.tree (length w.tree.groups) =
-      quota_words (has_quota v.tree.groups) (has_quota w.tree.groups) (used_words v.tree groups) (used_words w.tree (length w.tree.groups)) v.clock w.clock e (ap has_quota (sym shape.groups) ∙ e) told.usages in
+      let words : used_words v.tree groups ≡ used_words w.tree (length w.tree.groups) = ap (λ (l : List ℕ). drop 1 l) (usages_kept e) in
       let same : used_words v.tree groups ≡ used_words w.tree groups = words ∙ ap (λ (gs : List Group). used_words w.tree (length gs)) (sym shape.groups) in
       let long : length v.tree.usages ≡ length w.tree.usages = hs.tidy.1.1 ∙ (ap (λ (gs : List Group). length gs) shape.groups ∙ sym ht.tidy.1.1) in
       ext_get_or 0 v.tree.usages w.tree.usages long (λ k l. usages_told v.tree w.tree groups same k (subst (λ (j : ℕ). k < j) hs.tidy.1.1 l))
 
   -- ---- all of it
 
-  no_claims : (x : SimState) → IsSuited shapes root x → are_linux x.state.world.rules ≡ false
-  no_claims x h = ap are_linux h.rules ∙ plain.rules
+  -- by Linux rules words tell what these keep
+  by_words : are_linux v.rules ≡ true → AreToldAlike s.state t.state
+  by_words linux = linux_told s.state t.state linux shape.rules told.rules
+
+  claimed_same : v.claimed ≡ w.claimed
+  claimed_same = go (are_linux v.rules) refl
+    where
+      go : (b : Bool) → are_linux v.rules ≡ b → v.claimed ≡ w.claimed
+      go true linux = (by_words linux).claimed
+      go false plain = hs.tidy.1.2 plain ∙ sym (ht.tidy.1.2 (sym (ap are_linux shape.rules) ∙ plain))
+
+  -- the time between the machines is made of whole ticks
+  pub ticks_between : (d : ℕ) → v.clock + d ≡ w.clock → IsWholeTicks d s.state
+  ticks_between d later = ticks_told d s.state t.state (hs.policy ∙ sym ht.policy) shape.rules told.rules later
 
   -- the clock is told where the form keeps it, and where a group has a quota
   pub clock_kept : f.clock ≡ true → v.clock ≡ w.clock
   clock_kept = told.clock
 
   pub clock_told : has_quota v.tree.groups ≡ true → v.clock ≡ w.clock
-  clock_told e =
-      quota_clock (has_quota v.tree.groups) (has_quota w.tree.groups) (used_words v.tree (length v.tree.groups)) (used_words w.tree (length w.tree.groups)) v.clock w.clock e (ap has_quota (sym shape.groups) ∙ e) told.usages
+  clock_told e = ap (λ (l : List ℕ). get_or l 0 0) (usages_kept e)
 
   idle_same : (k : ℕ) → k < m → idle.is_idle v k ≡ idle.is_idle w k
   idle_same k l =
@@ -504,6 +516,16 @@ module _ (Ask : (Query → Type 0) → PolicyState → Type 0) (Tell : PolicySta
         (λ k l. ap (hidden_in whole.hidden) (sym (found_at (delayed_task d) (rested less v) k no_task) ∙ ap (delayed_task d) (rested_at less v k))
         ∙ (task_same k (subst (λ (j : ℕ). k < j) (many ∙ (sym (rested_long less w) ∙ sym ht.size.0)) l) ∙ sym (ap (hidden_in whole.hidden) (rested_at less w k))))
 
+    timers_same : map (delayed_alarm d) v.timers ≡ w.timers
+    timers_same = go (are_linux v.rules) refl
+      where
+        go : (b : Bool) → are_linux v.rules ≡ b → map (delayed_alarm d) v.timers ≡ w.timers
+        go true linux =
+            timers_told d v w shape.timers later (hs.timers (in_force v linux hs.force)) (ht.timers (in_force w (sym (ap are_linux shape.rules) ∙ linux) ht.force)) (by_words linux).timers
+        go false plain =
+            let none = counts.timers (sym (ap are_linux hs.rules) ∙ plain) in
+            no_timers (map (delayed_alarm d) v.timers) w.timers (sym (as_long (delayed_alarm d) v.timers) ∙ (sym hs.size.5 ∙ none)) (sym ht.size.5 ∙ none)
+
     -- without what is hidden the machines are the same but for unread parts, once the first one is as late
     pub whole_told : AreSame (hide_machine whole.hidden (delay_machine d (resting less s))) (hide_machine whole.hidden (resting less t))
     whole_told =
@@ -515,9 +537,9 @@ module _ (Ask : (Query → Type 0) → PolicyState → Type 0) (Tell : PolicySta
         let cycling = hs.still ∙ sym ht.still in
         let passing = hs.settled ∙ sym ht.settled in
         let rules = shape.rules in
-        let claimed = hs.tidy.1.2 (no_claims s hs) ∙ sym (ht.tidy.1.2 (no_claims t ht)) in
+        let claimed = claimed_same in
         let tracks = hs.quiet.1 hs.force ∙ sym (ht.quiet.1 ht.force) in
-        let timers = no_timers (map (delayed_alarm d) v.timers) w.timers (sym (as_long (delayed_alarm d) v.timers) ∙ (sym hs.size.5 ∙ plain.timers)) (sym ht.size.5 ∙ plain.timers) in
+        let timers = timers_same in
         let random = ⊎_elim told.random (λ (may : DrawNone root.state.policy). hs.random may ∙ sym (ht.random may)) whole.random in
         let groups = shape.groups in
         let homes = sym hs.tidy.1.0.1 ∙ ht.tidy.1.0.1 in
@@ -531,8 +553,8 @@ module _ (Ask : (Query → Type 0) → PolicyState → Type 0) (Tell : PolicySta
           parts = record {
             queues = queues_same;
             call = λ e. absurd (false_isnt_so e);
-            kicked = λ e. absurd (false_isnt_so (sym (no_claims s hs) ∙ e));
-            preempted = λ e. absurd (false_isnt_so (sym (no_claims s hs) ∙ e));
+            kicked = λ linux. (by_words linux).kicked;
+            preempted = λ linux. (by_words linux).preempted;
             usages = usages_same;
           };
           rest = λ i. record {

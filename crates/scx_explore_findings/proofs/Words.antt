@@ -5,13 +5,13 @@ use Rattle.scx_dsq.specs.Queues.{entry_of}
 use Rattle.scx_weights.specs.Hierarchy as tree
 use Rattle.scx_sched_tasks.specs.declared.task.Task.{Task}
 use Rattle.scx_sched_tasks.specs.Waits.{time_since}
-use Rattle.scx_sched_world.specs.World.{WorldState, are_linux, task_at, cpu_of}
+use Rattle.scx_sched_world.specs.World.{WorldState, are_linux, marks_of, task_at, cpu_of}
 use Rattle.scx_sched_world.specs.Helpers.{cpus_of, alarm_at}
 use Rattle.scx_sched.specs.Sim.{SimState}
 use Rattle.scx_explore_states.specs.declared.form.Form.{Form}
 use Rattle.scx_explore_states.specs.Rows.{kept, slice_kept, is_by_vtime, ahead_of, entries_of, place_of, is_idle, spot_of, bit_of, row_of, no_row, task_row, rows_of}
 use Rattle.scx_explore_states.specs.NotZero.{kept_words}
-use Rattle.scx_explore_states.specs.Written.{home_at, task_words, time_words, usage_words, flags_word, flags_words, alarm_words, timer_words, past_tick, map_words, state_words, IsWritten, AreKnown}
+use Rattle.scx_explore_states.specs.Written.{home_at, task_words, time_words, usage_words, marks_words, alarm_words, timer_words, past_tick, map_words, state_words, IsWritten, AreKnown}
 use Rattle.scx_explore_findings.specs.HiddenLaws.{LeavesOut, WordsDontDepend}
 use Rattle.scx_explore_findings.specs.Hidden.{unless, since_unless, with_tasks}
 use Rattle.scx_explore_findings.specs.IdleSlices as idle
@@ -101,24 +101,19 @@ module _ (f : Form) (ids : List ℕ) (s : SimState) (xs : List Task) (n : ℕ) (
   home_same : (t : ℕ) → home_at w t ≡ home_at other t
   home_same t = ap (λ (b : Bool). cond b (cond b (tree.home_of w.tree t) 0) 18446744073709551615) (there_same t)
 
-  flags_same : (m : ℕ) → flags_words w m ≡ flags_words other m
-  flags_same zero = refl
-  flags_same (suc m) = ap (λ (l : List ℕ). l ++ flags_word w m ∷ []) (flags_same m)
-
   timers_same : (m : ℕ) → timer_words w m ≡ timer_words other m
   timers_same zero = refl
   timers_same (suc m) = ap (λ (l : List ℕ). l ++ alarm_words w.clock (alarm_at w m)) (timers_same m)
 
   words_same : (order : List ℕ) → state_words f (rows_of f w ids) order s ≡ state_words f (rows_of f other ids) order changed
   words_same order =
-      let rules : List ℕ → List ℕ → List ℕ = λ fs ts. if are_linux w.rules then past_tick s.state.policy.tick_ms w.clock ∷ (fs ++ ts) else [] in
-      let rest : List ℕ → List ℕ → List ℕ = λ fs ts. time_words f w ++ (usage_words w ++ (rules fs ts ++ kept_words f.map_words (map_words s.state.maps))) in
-      let flags = flags_words w (length w.cpus) in
+      let marks = marks_words (marks_of w) in
+      let rules : List ℕ → List ℕ = λ ts. if are_linux w.rules then past_tick s.state.policy.tick_ms w.clock ∷ (marks ++ ts) else [] in
+      let rest : List ℕ → List ℕ = λ ts. time_words f w ++ (usage_words w ++ (rules ts ++ kept_words f.map_words (map_words s.state.maps))) in
       let timers = timer_words w (length w.timers) in
-      ap (λ rows. task_words f rows order (min (length w.tasks) 8) ++ rest flags timers) rows_same
-      ∙ ap (λ (m : ℕ). task_words f (rows_of f other ids) order (min m 8) ++ rest flags timers) as_many
-      ∙ ap (λ (fs : List ℕ). task_words f (rows_of f other ids) order (min (length xs) 8) ++ rest fs timers) (flags_same (length w.cpus))
-      ∙ ap (λ (ts : List ℕ). task_words f (rows_of f other ids) order (min (length xs) 8) ++ rest (flags_words other (length w.cpus)) ts) (timers_same (length w.timers))
+      ap (λ rows. task_words f rows order (min (length w.tasks) 8) ++ rest timers) rows_same
+      ∙ ap (λ (m : ℕ). task_words f (rows_of f other ids) order (min m 8) ++ rest timers) as_many
+      ∙ ap (λ (ts : List ℕ). task_words f (rows_of f other ids) order (min (length xs) 8) ++ rest ts) (timers_same (length w.timers))
 
   -- is written as the same words
   pub shown : (ys : List ℕ) → IsWritten f ids ys s → IsWritten f ids ys changed

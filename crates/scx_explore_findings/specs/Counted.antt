@@ -1,5 +1,5 @@
--- What a tick counts for the task of a CPU: its slice, as long as it ends, and its run time. By
--- plain rules it changes nothing until a slice ends, if no program loads it.
+-- A tick counts the slice of the task of its CPU down, if it ends, and its run time up. By plain
+-- rules it changes nothing else until a slice ends, if no program loads these.
 use Rattle.std.specs.Prelude.{◌≡◌, ℕ, ◌==◌, Bool, true, false, List, map, if◌then◌else◌, None, Some, IfSome, ◌⊎◌}
 use Rattle.scx_isa_semantics.specs.declared.callbacks.Callback.{Callback}
 use Rattle.scx_isa_semantics.specs.declared.host_tables.Field.{Field}

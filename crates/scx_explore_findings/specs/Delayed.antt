@@ -14,11 +14,12 @@ use Rattle.scx_sched_world.specs.declared.eject.Eject.{Eject}
 use Rattle.scx_sched_world.specs.declared.eject.Eject.TheVariants as cause
 use Rattle.scx_sched_world.specs.declared.notes.Note.{Note}
 use Rattle.scx_sched_world.specs.declared.timers.Alarm.{Alarm}
-use Rattle.scx_sched_world.specs.World.{WorldState}
+use Rattle.scx_sched_world.specs.World.{WorldState, are_linux}
 use Rattle.scx_sched_policy.specs.Policy.{PolicyState, program_of}
 use Rattle.scx_sched_machine.specs.Steps.{State, CallMade, Stepped}
 use Rattle.scx_sched_machine.specs.declared.events.Event.{Event}
 use Rattle.scx_sched.specs.Sim.{SimState, refusal, after_event}
+use Rattle.scx_explore_states.specs.Written.{past_tick}
 
 -- ---- later times
 
@@ -118,11 +119,16 @@ pub record AnswersLater (k : ℕ) (s : SimState) (e : Event) : Type 0 where
   pub refusal : refusal s e ≡ refusal (delay_machine k s) e
   pub after : delay_machine k (after_event s e) ≡ after_event (delay_machine k s) e
 
--- so it is under a policy that reads no clock and whose slices end exactly
+-- by Linux rules the time is made of whole ticks; by plain rules, and where slices end exactly, any
+-- time will do
+abbrev pub IsWholeTicks : ℕ → State → Type 0
+IsWholeTicks k s = are_linux s.world.rules ≡ true → past_tick s.policy.tick_ms k ≡ 0
+
+-- so it is under a policy that reads no clock
 abbrev pub EventsDontTellTimes : Type 0
 EventsDontTellTimes =
     (k : ℕ) (s : SimState) (e : Event)
     → AreClockless s.state.policy
-    → s.state.policy.tick_ms ≡ 0
+    → IsWholeTicks k s.state
     → IsSteady s.state
     → AnswersLater k s e

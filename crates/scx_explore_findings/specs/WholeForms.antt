@@ -25,6 +25,7 @@ use Rattle.scx_sched_world.specs.World.{WorldState, IsLike, are_linux, nothing_p
 use Rattle.scx_sched_policy.specs.Policy.{PolicyState, IsTimeout, program_of}
 use Rattle.scx_sched.specs.Ranges.{IsFine}
 use Rattle.scx_sched.specs.Sim.{SimState}
+use Rattle.scx_sched.specs.Timers.{AreTimersLater}
 use Rattle.scx_sched.specs.Waits.{IsTimely}
 use Rattle.scx_explore_states.specs.declared.form.Form.{Form}
 use Rattle.scx_explore_findings.specs.Asked.{AskAnyhow, AskOnly}
@@ -57,11 +58,6 @@ DrawsNone (Some p) = (slot : ℕ) → draws (at p.code slot) ≡ false
 abbrev pub DrawNone : PolicyState → Type 0
 DrawNone p = (b : Callback) → DrawsNone (program_of p b)
 
--- no program of the policy reads the clock, and slices end exactly, not by ticks of the clock
-pub record TellsNoTime (p : PolicyState) : Type 0 where
-  pub clockless : AreClockless p
-  pub exact : p.tick_ms ≡ 0
-
 -- ---- forms
 
 -- the form keeps everything that a program of the policy can read: it leaves out the number of
@@ -73,7 +69,7 @@ pub record IsWholeBy
     (Ask : (Query → Type 0) → PolicyState → Type 0) (Tell : PolicyState → Type 0) (p : PolicyState)
     (f : Form) : Type 0
   where
-    pub clock : (f.clock ≡ true) ⊎ TellsNoTime p
+    pub clock : (f.clock ≡ true) ⊎ AreClockless p
     pub pushes : f.pushes ≡ false
     pub idle_slices : (f.idle_slices ≡ true) ⊎ Tell p
     pub keys : (f.keys ≡ true) ⊎ InsertInOrder p
@@ -98,12 +94,11 @@ IsWholeInRuns p f = IsWholeBy AskOnly TellNoIdleSlices p f
 abbrev pub WholeFormsAreSoInRuns : Type 0
 WholeFormsAreSoInRuns = (p : PolicyState) (f : Form) → IsWhole p f → IsWholeInRuns p f
 
--- the machine goes by plain rules, and has no timers, and at most eight tasks and sixteen CPUs
-pub record IsPlain (root : SimState) : Type 0 where
-  pub rules : are_linux root.state.world.rules ≡ false
-  pub timers : length root.state.world.timers ≡ 0
+-- the machine has at most eight tasks and sixteen CPUs, and timers by Linux rules alone
+pub record HasFew (root : SimState) : Type 0 where
   pub tasks : length root.state.world.tasks ≤ 8
   pub cpus : length root.state.world.cpus ≤ 16
+  pub timers : are_linux root.state.world.rules ≡ false → length root.state.world.timers ≡ 0
 
 -- ---- facts of a machine between events
 
@@ -146,6 +141,7 @@ pub record IsLed (shapes : List Shape) (root s : SimState) : Type 0 where
   pub fine :
       IsFine (length root.state.world.tasks) events events None s.state.world.cpus s.state.world
   pub timely : IsTimely s.state
+  pub timers : AreTimersLater s.state.world
   pub still : s.state.world.cycling ≡ None
   pub settled : s.state.world.passing ≡ nothing_passes
   pub rules : s.state.world.rules ≡ root.state.world.rules
