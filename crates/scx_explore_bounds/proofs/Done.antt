@@ -1,4 +1,4 @@
--- What programs do tells what none of them does in any run.
+-- The uses of programs tell what none of them does in any run.
 use Rattle.std.proofs.Common.{◌≡◌, ◌||◌, Bool, true, false, List, [], ◌∷◌, Option, Some, None, refl, sym, subst}
 use Rattle.scx_isa_semantics.specs.declared.callbacks.Callback.{Callback}
 use Rattle.std.specs.List.{AllByRecursion}
@@ -20,7 +20,7 @@ use Rattle.scx_explore_bounds.specs.declared.uses.Use.TheVariants as such
 use Rattle.scx_explore_bounds.specs.declared.uses.Uses.{Uses}
 use Rattle.scx_explore_bounds.specs.Forms.{no_uses, DoesAs, DoAll}
 use Rattle.scx_explore_bounds.specs.Told.{DoesNoMore, IfDoesNoMore, UsesTellRuns}
-use Rattle.scx_explore_bounds.specs.Uses.{has, has_count_load, with_listing}
+use Rattle.scx_explore_bounds.specs.Uses.{asks_for_other_task, has, has_count_load, with_listing}
 use Rattle.scx_explore_bounds.proofs.Told.{listings_tell_loads, listings_tell_inserts, listings_tell_calls, listings_tell_any_loads}
 
 pub left_none : (a b : Bool) → (a || b) ≡ false → a ≡ false
@@ -30,6 +30,9 @@ left_none true b e = e
 pub right_none : (a b : Bool) → (a || b) ≡ false → b ≡ false
 right_none false b e = e
 right_none true b e = absurd (cc)
+
+none_of : (a b : Bool) → (a || b) ≡ false → (a ≡ false) × (b ≡ false)
+none_of a b e = (left_none a b e, right_none a b e)
 
 not_both : (b : Bool) → b ≡ true → b ≡ false → ⊥
 not_both b x y = absurd (cc)
@@ -46,7 +49,11 @@ record IsMore (u v : Uses) : Type 0 where
   clock : v.clock ≡ false → u.clock ≡ false
   random : v.random ≡ false → u.random ≡ false
   task_by_pid : v.task_by_pid ≡ false → u.task_by_pid ≡ false
+  other_task : v.other_task ≡ false → u.other_task ≡ false
   vtime_inserts : v.vtime_inserts ≡ false → u.vtime_inserts ≡ false
+  has_count_load :
+      v.has_count_load ≡ false
+      → u.has_count_load ≡ false
   pid : v.pid ≡ false → u.pid ≡ false
   weight : v.weight ≡ false → u.weight ≡ false
   vtime : v.vtime ≡ false → u.vtime ≡ false
@@ -54,15 +61,13 @@ record IsMore (u v : Uses) : Type 0 where
   slice : v.slice ≡ false → u.slice ≡ false
   early_slice : v.early_slice ≡ false → u.early_slice ≡ false
   empty_slice : v.empty_slice ≡ false → u.empty_slice ≡ false
-  has_count_load :
-      v.has_count_load ≡ false
-      → u.has_count_load ≡ false
 
 no_more : (u v : Uses) (c : Context) (code : Code) → IsMore u v → DoesNoMore u c code → DoesNoMore v c code
 no_more u v c code more d = record {
   clock = λ e. d.clock (more.clock e);
   random = λ e. d.random (more.random e);
   task_by_pid = λ e. d.task_by_pid (more.task_by_pid e);
+  other_task = λ e. d.other_task (more.other_task e);
   vtime_inserts = λ e. d.vtime_inserts (more.vtime_inserts e);
   pid = λ e. d.pid (more.pid e);
   weight = λ e. d.weight (more.weight e);
@@ -83,6 +88,7 @@ module _ (u : Uses) (c : Context) (l : Listing) where
     clock = left_none u.clock (has l (such.Call helper.KtimeGetNs));
     random = left_none u.random (has l (such.Call helper.PrandomU32));
     task_by_pid = left_none u.task_by_pid (has l (such.Call helper.TaskByPid));
+    other_task = left_none u.other_task (asks_for_other_task l);
     vtime_inserts = left_none u.vtime_inserts (has l (such.Call helper.DsqInsertVtime));
     pid = left_none u.pid (has l (such.Load field.Pid));
     weight = left_none u.weight (has l (such.Load field.Weight));
@@ -100,6 +106,9 @@ module _ (u : Uses) (c : Context) (l : Listing) where
     clock = λ e. listings_tell_calls helper.KtimeGetNs c code l listing (right_none u.clock (has l (such.Call helper.KtimeGetNs)) e);
     random = λ e. listings_tell_calls helper.PrandomU32 c code l listing (right_none u.random (has l (such.Call helper.PrandomU32)) e);
     task_by_pid = λ e. listings_tell_calls helper.TaskByPid c code l listing (right_none u.task_by_pid (has l (such.Call helper.TaskByPid)) e);
+    other_task = λ e.
+        let none = none_of (has l (such.Call helper.CpuCurr)) (has l (such.Call helper.DsqPeek)) (right_none u.other_task (asks_for_other_task l) e) in
+        (listings_tell_calls helper.CpuCurr c code l listing none.0, listings_tell_calls helper.DsqPeek c code l listing none.1);
     vtime_inserts = λ e. listings_tell_calls helper.DsqInsertVtime c code l listing (right_none u.vtime_inserts (has l (such.Call helper.DsqInsertVtime)) e);
     pid = λ e. listings_tell_loads c code l field.Pid program typed listing (right_none u.pid (has l (such.Load field.Pid)) e);
     weight = λ e. listings_tell_loads c code l field.Weight program typed listing (right_none u.weight (has l (such.Load field.Weight)) e);
@@ -109,10 +118,8 @@ module _ (u : Uses) (c : Context) (l : Listing) where
     early_slice = λ e early. listings_tell_loads c code l field.Slice program typed listing (early_none c.callback (has l (such.Load field.Slice)) early (right_none u.early_slice (is_early c.callback (has l (such.Load field.Slice))) e));
     empty_slice = λ e. listings_tell_inserts c code l program typed listing (right_none u.empty_slice (has l such.EmptySlice) e);
     has_count_load = λ e.
-        let none = right_none u.has_count_load (has_count_load l) e in (
-          listings_tell_any_loads field.Slice c code l listing (left_none (has l (such.AnyLoad field.Slice)) (has l (such.AnyLoad field.RunNs)) none),
-          listings_tell_any_loads field.RunNs c code l listing (right_none (has l (such.AnyLoad field.Slice)) (has l (such.AnyLoad field.RunNs)) none),
-        );
+        let none = none_of (has l (such.AnyLoad field.Slice)) (has l (such.AnyLoad field.RunNs)) (right_none u.has_count_load (has_count_load l) e) in
+        (listings_tell_any_loads field.Slice c code l listing none.0, listings_tell_any_loads field.RunNs c code l listing none.1);
   }
 
 -- ---- programs, one after another
@@ -126,6 +133,7 @@ module _ (r : Rules) (shapes : List Shape) (p : Programs) where
     clock = λ e. e;
     random = λ e. e;
     task_by_pid = λ e. e;
+    other_task = λ e. e;
     vtime_inserts = λ e. e;
     pid = λ e. e;
     weight = λ e. e;
@@ -142,6 +150,7 @@ module _ (r : Rules) (shapes : List Shape) (p : Programs) where
     clock = λ e. x.clock (y.clock e);
     random = λ e. x.random (y.random e);
     task_by_pid = λ e. x.task_by_pid (y.task_by_pid e);
+    other_task = λ e. x.other_task (y.other_task e);
     vtime_inserts = λ e. x.vtime_inserts (y.vtime_inserts e);
     pid = λ e. x.pid (y.pid e);
     weight = λ e. x.weight (y.weight e);

@@ -1,4 +1,4 @@
--- What the programs of some callbacks do, one after another.
+-- The uses of the programs of some callbacks, one after another.
 use Rattle.std.proofs.Common.{◌≡◌, ℕ, zero, suc, ◌+◌, ◌<◌, List, [], ◌∷◌, length, take, get_or, refl, subst, arith, Result}
 use Rattle.std.specs.Prelude.{IfOk}
 use Rattle.scx_isa_semantics.specs.declared.callbacks.Callback.{Callback}

@@ -22,9 +22,11 @@ use Rattle.scx_explore_bounds.specs.declared.bounds.Mode.TheVariants.{Events, Mi
 -- ---- by what programs do
 
 -- a program can tell the slice of a task that sleeps or is held, before an insert gives it another
--- one: an insert may keep it, or a program loads one before, or may load one of any task
+-- one: an insert may keep it, or a program loads one before, or may load one of a task that it asks
+-- for
 abbrev pub tells_idle_slices : Uses → Bool
-tells_idle_slices u = u.empty_slice || (u.early_slice || (u.slice && u.task_by_pid))
+tells_idle_slices u =
+    u.empty_slice || (u.early_slice || (u.slice && (u.task_by_pid || u.other_task)))
 
 -- what is kept under programs that do that, with waits or without: what one of them can tell
 abbrev pub form_of : Uses → Bool → Form
@@ -86,6 +88,7 @@ no_uses = record {
   clock = false;
   random = false;
   task_by_pid = false;
+  other_task = false;
   vtime_inserts = false;
   pid = false;
   weight = false;
@@ -109,10 +112,10 @@ DoAll r shapes p [] u v = v ≡ u
 DoAll r shapes p (b ∷ bs) u v =
     (w : Uses) × DoesAs r shapes b (at p b) u w × DoAll r shapes p bs w v
 
--- What is kept in lists of that mode and depth, where tasks wait so long at most, they are to be
--- told apart or not, and programs do that: in lists of events waits only where one may be too long,
--- and slices only where a program may tell how long one is; and there tasks of a group may change
--- places.
+-- The form of a state in lists of that mode and depth, where tasks wait so long at most, they are
+-- to be told apart or not, and programs do that: in lists of events waits only where one may be too
+-- long, and slices only where a program may tell how long one is; and there tasks of a group may
+-- change places.
 abbrev pub form_within : Mode → ℕ → ℕ → Bool → Uses → Form
 form_within Events depth timeout_ms apart u =
     without_slices (without_names (form_of u (nat_lt timeout_ms depth)) apart u) u

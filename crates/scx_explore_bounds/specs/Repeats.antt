@@ -1,4 +1,4 @@
--- How often an event is tried in a row.
+-- Events that are tried several times in a row.
 use Rattle.std.specs.Prelude.{ℕ, ◌*◌, ◌-◌, ◌^◌, min, Bool, if◌then◌else◌}
 use Rattle.scx_sched_machine.specs.declared.events.Event.{Event}
 use Rattle.scx_sched.specs.Sim.{SimState}

@@ -76,6 +76,8 @@ pub record DoesNoMore (u : Uses) (c : Context) (code : Code) : Type 0 where
   pub clock : u.clock ≡ false → CallsNone helper.KtimeGetNs code
   pub random : u.random ≡ false → CallsNone helper.PrandomU32 code
   pub task_by_pid : u.task_by_pid ≡ false → CallsNone helper.TaskByPid code
+  pub other_task :
+      u.other_task ≡ false → CallsNone helper.CpuCurr code × CallsNone helper.DsqPeek code
   pub vtime_inserts : u.vtime_inserts ≡ false → CallsNone helper.DsqInsertVtime code
   pub pid : u.pid ≡ false → AsksOnly (LoadsNo field.Pid) c code
   pub weight : u.weight ≡ false → AsksOnly (LoadsNo field.Weight) c code

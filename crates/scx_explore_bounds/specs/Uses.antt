@@ -2,7 +2,8 @@
 -- the current task of a CPU, the front of a queue, the processor of a task or one that is idle, and
 -- masks of processors, tell nothing but what every state keeps: who runs where, who waits in which
 -- queue and at which place, on which processor a task ran last, and which processors are claimed. A
--- load from a task that such a helper answers counts as any load.
+-- load from a task that such a helper answers counts as any load; so a program that loads slices
+-- and calls one may load the slice of any task.
 use Rattle.std.specs.Prelude.{◌≡◌, ℕ, zero, suc, ◌==◌, Bool, true, false, ◌&&◌, ◌||◌, length, Option, Some, None}
 use Rattle.scx_isa_semantics.specs.declared.callbacks.Callback.{Callback}
 use Rattle.scx_isa_semantics.specs.declared.host_tables.Field.{Field}
@@ -101,6 +102,10 @@ is_use (such.AnyLoad f) i s = is_any_load f i
 abbrev pub has : Listing → Use → Bool
 has l u = any_below (length l.code.items) (λ s. is_use u (at l.code.items s) (known_at l s))
 
+-- it asks for a task other than by its number: the current task of a CPU, or the front of a queue
+abbrev pub asks_for_other_task : Listing → Bool
+asks_for_other_task l = has l (such.Call helper.CpuCurr) || has l (such.Call helper.DsqPeek)
+
 -- it has a load of the bytes at which a slice or a run time lies, from any memory
 abbrev pub has_count_load : Listing → Bool
 has_count_load l = has l (such.AnyLoad field.Slice) || has l (such.AnyLoad field.RunNs)
@@ -121,6 +126,7 @@ with_listing u c r l = record {
   clock = either u.clock (has l (such.Call helper.KtimeGetNs));
   random = either u.random (has l (such.Call helper.PrandomU32));
   task_by_pid = either u.task_by_pid (has l (such.Call helper.TaskByPid));
+  other_task = either u.other_task (asks_for_other_task l);
   vtime_inserts = either u.vtime_inserts (has l (such.Call helper.DsqInsertVtime));
   pid = either u.pid (has l (such.Load field.Pid));
   weight = either u.weight (has l (such.Load field.Weight));

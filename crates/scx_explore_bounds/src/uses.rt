@@ -1,7 +1,7 @@
 ghost use Rattle.std.specs.Prelude.{◌≡◌, option_copied, IfOk};
 ghost use Rattle.scx_explore_bounds.specs.Forms.{tells_idle_slices};
 ghost use Rattle.scx_explore_states.specs.Asking.{is_early};
-ghost use Rattle.scx_explore_bounds.specs.Uses.{Does, either, gives_none, has, is_any_load, is_call, is_field, is_helper, is_insert, is_load, is_of_task, is_own, is_task, is_use, has_count_load, may_be_0, with_listing};
+ghost use Rattle.scx_explore_bounds.specs.Uses.{Does, asks_for_other_task, either, gives_none, has, is_any_load, is_call, is_field, is_helper, is_insert, is_load, is_of_task, is_own, is_task, is_use, has_count_load, may_be_0, with_listing};
 
 use scx_abs::{AbsState, Kind};
 use scx_isa::{Callback, Field, Helper, Insn, Program, Register, Rules};
@@ -12,7 +12,7 @@ use std::alloc::{AllocError, Global};
 /// The helper calls and loads of a policy's programs that decide what they can tell of a state.
 ///
 /// The current task of a CPU, the front of a queue, the CPU of a task and idle CPUs are in every state, so asking
-/// for them decides nothing. If a program loads a field of a task that it was answered, that counts as any load.
+/// for them tells nothing more. If a program loads a field of a task that it was answered, that counts as any load.
 #[derive(Clone, Copy)]
 pub struct Uses {
     /// One asks for the clock.
@@ -21,6 +21,8 @@ pub struct Uses {
     pub random: bool,
     /// One asks for a task by its number.
     pub task_by_pid: bool,
+    /// One asks for a task in another way: for the current task of a CPU, or the front of a queue.
+    pub other_task: bool,
     /// One inserts by virtual time.
     pub vtime_inserts: bool,
     /// One loads the number of a task.
@@ -62,6 +64,7 @@ impl Uses {
         clock: false,
         random: false,
         task_by_pid: false,
+        other_task: false,
         vtime_inserts: false,
         pid: false,
         weight: false,
@@ -104,6 +107,7 @@ impl Uses {
             clock: either(self.clock, has(listing, Use::Call(Helper::KtimeGetNs))),
             random: either(self.random, has(listing, Use::Call(Helper::PrandomU32))),
             task_by_pid: either(self.task_by_pid, has(listing, Use::Call(Helper::TaskByPid))),
+            other_task: either(self.other_task, asks_for_other_task(listing)),
             vtime_inserts: either(
                 self.vtime_inserts,
                 has(listing, Use::Call(Helper::DsqInsertVtime)),
@@ -121,11 +125,11 @@ impl Uses {
     }
 
     /// True if a program can tell the slice of a task that sleeps or is held, before an insert gives it another one:
-    /// it keeps that slice, or a program loads it, with the task at hand before an insert or with any task by its number.
+    /// it keeps that slice, or a program loads it, with the task at hand before an insert or with any task that it asks for.
     pub fn tells_idle_slices(self) -> bool
         ensures { result ≡ tells_idle_slices self }
     {
-        self.empty_slice || self.early_slice || self.slice && self.task_by_pid
+        self.empty_slice || self.early_slice || self.slice && (self.task_by_pid || self.other_task)
     }
 }
 
@@ -153,6 +157,13 @@ fn is_own(rules: Rules, load: bool) -> bool
         Rules::Plain => false,
         Rules::Linux => load,
     }
+}
+
+/// True if the program asks for a task other than by its number: for the current task of a CPU, or the front of a queue.
+fn asks_for_other_task(listing: &Listing) -> bool
+    ensures { result ≡ asks_for_other_task listing.now }
+{
+    has(listing, Use::Call(Helper::CpuCurr)) || has(listing, Use::Call(Helper::DsqPeek))
 }
 
 /// True if the program has a load of the bytes at which a slice or a run time lies, from any memory.
