@@ -81,10 +81,10 @@ left_out false e = refl
 left_out true e = absurd (apart e)
 
 -- what is asked being said in that way, and with any words of maps
-pub computed_by : (Ask : (Query → Type 0) → PolicyState → Type 0) (Tell : PolicyState → Type 0) (p : PolicyState) (u : Uses) (waits : Bool) (words : MapWords) → DoNoMore u p → p.tick_ms ≡ 0 → Ask (ReadsNone (left_out_by (form_of u waits))) p → (tells_idle_slices u ≡ false → Tell p)
+pub computed_by : (Ask : (Query → Type 0) → PolicyState → Type 0) (Tell : PolicyState → Type 0) (p : PolicyState) (u : Uses) (waits : Bool) (words : MapWords) → DoNoMore u p → Ask (ReadsNone (left_out_by (form_of u waits))) p → (tells_idle_slices u ≡ false → Tell p)
     → IsWholeBy Ask Tell p (record (form_of u waits) { map_words = words })
-computed_by Ask Tell p u waits words none exact unread slices = record {
-  clock = kept_or u.clock (λ e. record { clockless = λ b. clockless u e (program_of p b) (none b); exact = exact });
+computed_by Ask Tell p u waits words none unread slices = record {
+  clock = kept_or u.clock (λ e b. clockless u e (program_of p b) (none b));
   pushes = refl;
   idle_slices = kept_or (tells_idle_slices u) slices;
   keys = kept_or u.vtime_inserts (λ e b. in_order u e (program_of p b) (none b));
@@ -99,4 +99,4 @@ computed_by Ask Tell p u waits words none exact unread slices = record {
 }
 
 pub computed_forms_are_whole : ComputedFormsAreWhole
-computed_forms_are_whole p u waits none exact unread slices = computed_by AskAnyhow TellNoSlices p u waits Whole none exact unread slices
+computed_forms_are_whole p u waits none unread slices = computed_by AskAnyhow TellNoSlices p u waits Whole none unread slices

@@ -1,5 +1,5 @@
 -- A form that is computed keeps what a policy's programs ask in their runs.
-use Rattle.std.proofs.Common.{◌≡◌, ℕ, zero, suc, ◌<◌, ◌||◌, ◌&&◌, Bool, true, false, not, List, [], ◌∷◌, length, get_or, Option, Some, None, refl, sym, ap, ◌∙◌, subst, arith, inl, inr}
+use Rattle.std.proofs.Common.{◌≡◌, ℕ, zero, suc, ◌<◌, ◌||◌, ◌&&◌, Bool, true, false, not, List, [], ◌∷◌, length, get_or, Option, Some, None, refl, sym, subst, arith, inl, inr}
 use Rattle.std.specs.List.{AllByRecursion}
 use Rattle.scx_isa_semantics.specs.declared.callbacks.Callback.{Callback}
 use Rattle.scx_isa_semantics.specs.declared.callbacks.Callback.TheVariants as callback
@@ -7,7 +7,6 @@ use Rattle.scx_isa_semantics.specs.declared.host_tables.Field.{Field}
 use Rattle.scx_isa_semantics.specs.declared.host_tables.Field.TheVariants.{Slice, DsqVtime, RunNs}
 use Rattle.scx_isa_semantics.specs.declared.instructions.Insn.{Insn}
 use Rattle.scx_isa_semantics.specs.declared.instructions.Insn.TheVariants as insn
-use Rattle.scx_isa_semantics.specs.declared.rules.Rules.{Rules}
 use Rattle.scx_isa_semantics.specs.Callbacks.{at, callbacks}
 use Rattle.scx_isa_semantics.specs.Arithmetic.{at_distance}
 use Rattle.scx_isa_semantics.specs.Code as codes
@@ -15,15 +14,12 @@ use Rattle.scx_isa_semantics.specs.Code.{Code}
 use Rattle.scx_isa_semantics.specs.Effects.{Query, Call, Load, Store}
 use Rattle.scx_isa_semantics.specs.HostTables.{field_at}
 use Rattle.scx_isa_semantics.specs.Memory.{access_size, size_bytes}
-use Rattle.scx_isa.specs.Spelling.{IsProgram}
-use Rattle.scx_maps.specs.declared.shape.Shape.{Shape}
 use Rattle.scx_vm.specs.declared.context.Context.{Context}
 use Rattle.scx_vm.specs.Programs.{VerifiedProgram}
-use Rattle.scx_verify.specs.Typing.{IsTyped}
 use Rattle.scx_sched_policy.specs.Policy.{PolicyState, program_of}
 use Rattle.scx_sched_world.specs.World.{WorldState, are_linux}
 use Rattle.scx_load_policies.specs.Building.{IsBuilt, IsIn, IsAccepted, code_of, context_of}
-use Rattle.scx_load_policies.specs.Policies.{PolicyFile, Programs}
+use Rattle.scx_load_policies.specs.Policies.{PolicyFile}
 use Rattle.scx_weights.specs.Limits.{has_quota}
 use Rattle.scx_explore_states.specs.Asking.{LoadsNo, GivesOne, is_early}
 use Rattle.scx_explore_states.specs.Written.{needs_slices}
@@ -33,13 +29,13 @@ use Rattle.scx_explore_findings.specs.IdleSlices.{LoadsItsOwn, IfLoadsItsOwn, Te
 use Rattle.scx_explore_findings.specs.Unread.{is_some_field, loads_some, ReadsNone}
 use Rattle.scx_explore_findings.proofs.CountedRuns.{such_programs_load_no_count}
 use Rattle.scx_explore_bounds.specs.declared.uses.Uses.{Uses}
-use Rattle.scx_explore_bounds.specs.Forms.{tells_idle_slices, form_of, no_uses, DoesAs, DoAll}
+use Rattle.scx_explore_bounds.specs.Forms.{tells_idle_slices, form_of, no_uses, DoAll}
 use Rattle.scx_explore_bounds.specs.Told.{DoesNoMore, IfDoesNoMore}
 use Rattle.scx_explore_bounds.specs.Uses.{is_field, is_any_load}
 use Rattle.scx_explore_bounds.proofs.Done.{left_none, right_none, uses_tell_runs}
 use Rattle.scx_explore_audit.specs.Computed.{IfNoMore, DoNoMore, left_out_by, ComputedFormsAreWholeInRuns, ProgramsLoadNoCount}
 use Rattle.scx_explore_audit.proofs.Computed.{apart, computed_by}
-use Rattle.scx_explore_audit.proofs.PlainCalls.{plain_runs_ask_for_none}
+use Rattle.scx_explore_audit.proofs.NoOtherTasks.{such_runs_ask_for_none}
 
 -- ---- each program of a policy
 
@@ -80,45 +76,6 @@ do_no_more file p u built done b =
     go (Some q) (Some code) e i a d =
         subst (λ (k : Context). DoesNoMore u k q.code) (sym i) (subst (λ (y : Code). DoesNoMore u (context_of file b) y) (sym (code_is q.code code e)) (d a))
 
--- the program passes in a context by these rules, if there is one
-record Passes (r : Rules) (q : VerifiedProgram) : Type 0 where
-  program : IsProgram q.code
-  typed : IsTyped q.context q.code
-  rules : q.context.rules ≡ r
-
-abbrev IfPasses : Rules → Option VerifiedProgram → Type 0
-IfPasses r None = Unit {0}
-IfPasses r (Some q) = Passes r q
-
-abbrev IfProgram : Option Code → Type 0
-IfProgram None = Unit {0}
-IfProgram (Some code) = IsProgram code
-
-all_programs : (r : Rules) (shapes : List Shape) (p : Programs) (bs : List Callback) (u v : Uses) → DoAll r shapes p bs u v → AllByRecursion (λ b. IfProgram (at p b)) bs
-all_programs r shapes p [] u v done = tt
-all_programs r shapes p (b ∷ bs) u v done = (one (at p b) done.1, all_programs r shapes p bs done.0 v done.2)
-  where
-    one : (o : Option Code) → DoesAs r shapes b o u done.0 → IfProgram o
-    one None does = tt
-    one (Some code) does = does.program
-
--- so does each program of a policy that is built of a file
-all_pass : (file : PolicyFile) (p : PolicyState) (u : Uses) → IsBuilt file p → DoAll file.rules file.shapes file.programs callbacks no_uses u → (b : Callback) → IfPasses file.rules (program_of p b)
-all_pass file p u built done b =
-    go (program_of p b) (at file.programs b) (built.programs b) (built.contexts b) (built.accepted b)
-    (at_each (λ x. IfProgram (at file.programs x)) tt (all_programs file.rules file.shapes file.programs callbacks no_uses u done) b)
-  where
-    go : (o : Option VerifiedProgram) (x : Option Code) → code_of o ≡ x → IsIn (context_of file b) o → IsAccepted (context_of file b) x → IfProgram x → IfPasses file.rules o
-    go None x e i a d = tt
-    go (Some q) None e i a d = absurd (cc)
-    go (Some q) (Some code) e i a d =
-        let same = code_is q.code code e in
-        record {
-          program = subst IsProgram (sym same) d;
-          typed = subst (λ (k : Context). IsTyped k q.code) (sym i) (subst (λ (y : Code). IsTyped (context_of file b) y) (sym same) a);
-          rules = ap (λ (k : Context). k.rules) i;
-        }
-
 -- ---- queries
 
 none_of_both : (a : Bool) → (a ≡ false → true ≡ false) → not a ≡ false
@@ -148,49 +105,50 @@ gives u b given None d = tt
 gives u b given (Some q) d = λ is. d.empty_slice given
 
 -- what programs do, where none tells a slice of a task that sleeps or is held
-record TellsNoneIdle (file : PolicyFile) (u : Uses) : Type 0 where
+record TellsNoneIdle (u : Uses) : Type 0 where
   given : u.empty_slice ≡ false
   early : u.early_slice ≡ false
-  others : u.slice ≡ true → u.task_by_pid ≡ false
-  plain : u.slice ≡ true → are_linux file.rules ≡ false
+  by_pid : u.slice ≡ true → u.task_by_pid ≡ false
+  others : u.slice ≡ true → u.other_task ≡ false
 
-tells_none_idle : (file : PolicyFile) (u : Uses) → (are_linux file.rules ≡ true → u.slice ≡ true → tells_idle_slices u ≡ true) → tells_idle_slices u ≡ false → TellsNoneIdle file u
-tells_none_idle file u kept none =
-    let rest = right_none u.empty_slice (u.early_slice || (u.slice && u.task_by_pid)) none in
+tells_none_idle : (u : Uses) → tells_idle_slices u ≡ false → TellsNoneIdle u
+tells_none_idle u none =
+    let asks : Bool = u.task_by_pid || u.other_task in
+    let rest = right_none u.empty_slice (u.early_slice || (u.slice && asks)) none in
+    let asks_none : u.slice ≡ true → asks ≡ false = λ loads. none_right u.slice asks loads (right_none u.early_slice (u.slice && asks) rest) in
     record {
-      given = left_none u.empty_slice (u.early_slice || (u.slice && u.task_by_pid)) none;
-      early = left_none u.early_slice (u.slice && u.task_by_pid) rest;
-      others = λ loads. none_right u.slice u.task_by_pid loads (right_none u.early_slice (u.slice && u.task_by_pid) rest);
-      plain = λ loads. go (are_linux file.rules) refl loads;
+      given = left_none u.empty_slice (u.early_slice || (u.slice && asks)) none;
+      early = left_none u.early_slice (u.slice && asks) rest;
+      by_pid = λ loads. left_none u.task_by_pid u.other_task (asks_none loads);
+      others = λ loads. right_none u.task_by_pid u.other_task (asks_none loads);
     }
-  where
-    go : (b : Bool) → are_linux file.rules ≡ b → u.slice ≡ true → b ≡ false
-    go false e loads = refl
-    go true e loads = absurd (apart (sym none ∙ kept e loads))
 
 -- so each program loads the slice of its own task at most
-loads_own : (file : PolicyFile) (u : Uses) (b : Callback) → TellsNoneIdle file u → (o : Option VerifiedProgram) → IfNoMore u o → IfPasses file.rules o → IfLoadsItsOwn b o
-loads_own file u b none None d passes = tt
-loads_own file u b none (Some q) d passes = λ is. go u.slice (is_early q.context.callback true) refl refl
+loads_own : (u : Uses) (b : Callback) → TellsNoneIdle u → (o : Option VerifiedProgram) → IfNoMore u o → IfLoadsItsOwn b o
+loads_own u b none None d = tt
+loads_own u b none (Some q) d = λ is. go u.slice (is_early q.context.callback true) refl refl
   where
     go : (x y : Bool) → u.slice ≡ x → is_early q.context.callback true ≡ y → LoadsItsOwn q.context q.code
     go false y loads early = inl (d.slice loads)
     go true true loads early = inl (d.early_slice none.early early)
-    go true false loads early =
-        inr (early, plain_runs_ask_for_none q.context q.code passes.program passes.typed (ap are_linux passes.rules ∙ none.plain loads) (d.task_by_pid (none.others loads)))
+    go true false loads early = inr (early, such_runs_ask_for_none q.context q.code (d.task_by_pid (none.by_pid loads)) (d.other_task (none.others loads)))
 
 pub computed_forms_are_whole_in_runs : ComputedFormsAreWholeInRuns
-computed_forms_are_whole_in_runs file p u waits words built done exact kept =
+computed_forms_are_whole_in_runs file p u waits words built done =
     let none : DoNoMore u p = do_no_more file p u built done in
-    computed_by AskOnly TellNoIdleSlices p u waits words none exact (λ b. unread u waits b (program_of p b) (none b))
-    (λ e. let tells = tells_none_idle file u kept e in record {
+    computed_by AskOnly TellNoIdleSlices p u waits words none (λ b. unread u waits b (program_of p b) (none b))
+    (λ e. let tells = tells_none_idle u e in record {
       given = λ b. gives u b tells.given (program_of p b) (none b);
-      loads = λ b. loads_own file u b tells (program_of p b) (none b) (all_pass file p u built done b);
+      loads = λ b. loads_own u b tells (program_of p b) (none b);
     })
 
 -- ---- slices and run times
 
--- a world whose states need no slices has no quota
+-- a world whose states need no slices goes by plain rules
+pub goes_plainly : (w : WorldState) → needs_slices w ≡ false → are_linux w.rules ≡ false
+goes_plainly w = left_none (are_linux w.rules) (has_quota w.tree.groups)
+
+-- and has no quota
 pub has_no_quota : (w : WorldState) → needs_slices w ≡ false → has_quota w.tree.groups ≡ false
 has_no_quota w = right_none (are_linux w.rules) (has_quota w.tree.groups)
 

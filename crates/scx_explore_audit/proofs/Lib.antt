@@ -12,5 +12,5 @@ mod Waitless
 mod Respected
 pub mod Rowed
 mod Computed
-mod PlainCalls
+mod NoOtherTasks
 pub mod InRuns

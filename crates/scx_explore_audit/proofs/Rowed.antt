@@ -38,7 +38,7 @@ use Rattle.scx_explore_findings.specs.IdleSlices as idle
 use Rattle.scx_explore_findings.specs.IdleSlices.{is_put_nowhere, TellNoIdleSlices}
 use Rattle.scx_explore_findings.specs.UnreadParts.{AreAsStates}
 use Rattle.scx_explore_findings.specs.Hidden.{Hidden}
-use Rattle.scx_explore_findings.specs.WholeForms.{IsWholeInRuns, IsPlain, IsLed}
+use Rattle.scx_explore_findings.specs.WholeForms.{IsWholeInRuns, HasFew, IsLed}
 use Rattle.scx_explore_findings.proofs.CountedMachines.{counts_change_nothing, ticked_state, ticked_slice, ticks_only_count}
 use Rattle.scx_explore_findings.proofs.CountedRecords.{counted_ends}
 use Rattle.scx_explore_findings.proofs.CountedShown.{counted_written, counted_idle}
@@ -163,11 +163,11 @@ record LastsTo (f : Form) (ids : List ℕ) (shapes : List Shape) (root : SimStat
 
 -- ---- a tick that ends no slice
 
-module _ (f : Form) (ids : List ℕ) (shapes : List Shape) (root : SimState) (pushless : f.pushes ≡ false) (sliceless : f.slices ≡ false) (timeless : f.run_ns ≡ false) (plain : IsPlain root) (free : has_quota root.state.world.tree.groups ≡ false) (told : AskAnyhow LoadsNoCount root.state.policy) where
+module _ (f : Form) (ids : List ℕ) (shapes : List Shape) (root : SimState) (pushless : f.pushes ≡ false) (sliceless : f.slices ≡ false) (timeless : f.run_ns ≡ false) (plain : are_linux root.state.world.rules ≡ false) (free : has_quota root.state.world.tree.groups ≡ false) (told : AskAnyhow LoadsNoCount root.state.policy) where
   -- a machine to which events have led, with room for one more
   plainly : (s : SimState) → IsLed shapes root s → s.state.world.ejected ≡ None → s.events < max_events → IsInForcePlainly s
   plainly s led force room = record {
-    rules = ap are_linux led.rules ∙ plain.rules;
+    rules = ap are_linux led.rules ∙ plain;
     force = force;
     told = subst (λ (p : PolicyState). AskAnyhow LoadsNoCount p) (sym led.policy) told;
     room = ne_eqb s.events max_events (λ e. omega (arith, room, e));
@@ -328,7 +328,7 @@ with_slices b p f w = record {
 
 -- ---- an event of two machines that are told of each other
 
-module _ (f : Form) (ids : List ℕ) (sorts : List Sort) (root : SimState) (shapes : List Shape) (whole : IsWholeInRuns root.state.policy f) (stalls : (f.waits ≡ true) ⊎ All (λ x. x ≢ sort.Stall) sorts) (plain : IsPlain root) (s t : SimState) (e : Event) (tried : IsTried root e) (led_s : IsLed shapes root s) (led_t : IsLed shapes root t) (over : s.events ≤ max_events) (fits : t.events + 1 ≤ max_events) (force_t : t.state.world.ejected ≡ None) (early : f.waits ≡ false → t.state.world.clock < t.state.policy.timeout_ms) (run : CallsRunAlong t (e ∷ [])) (told : (less : Bool) → (less ≡ false → f.idle_slices ≡ true) → AreSameLater root f less whole.hidden s t) where
+module _ (f : Form) (ids : List ℕ) (sorts : List Sort) (root : SimState) (shapes : List Shape) (whole : IsWholeInRuns root.state.policy f) (stalls : (f.waits ≡ true) ⊎ All (λ x. x ≢ sort.Stall) sorts) (s t : SimState) (e : Event) (tried : IsTried root e) (led_s : IsLed shapes root s) (led_t : IsLed shapes root t) (over : s.events ≤ max_events) (fits : t.events + 1 ≤ max_events) (force_t : t.state.world.ejected ≡ None) (early : f.waits ≡ false → t.state.world.clock < t.state.policy.timeout_ms) (run : CallsRunAlong t (e ∷ [])) (told : (less : Bool) → (less ≡ false → f.idle_slices ≡ true) → AreSameLater root f less whole.hidden s t) where
   abbrev h : Hidden
   h = whole.hidden
 
@@ -343,7 +343,7 @@ module _ (f : Form) (ids : List ℕ) (sorts : List Sort) (root : SimState) (shap
   with_waits stay =
       by_slices f (TellNoIdleSlices p) (IsMatchedAs f ids sorts s t (e ∷ [])) whole.idle_slices
       (λ less keeps tells leaves.
-      paired root f ids whole.pushes plain.rules less h stay s t (told less keeps) (IsMatchedAs f ids sorts s t (e ∷ []))
+      paired root f ids whole.pushes less h stay s t (told less keeps) (IsMatchedAs f ids sorts s t (e ∷ []))
       (λ R linked pair.
       matched_as shapes root f ids (Tells less h p) (AreOmitted less h p R) (omitted_linked f ids less h whole.left_out leaves root p stay R linked) sorts s t (e ∷ [])
       (record { pair = pair; here = led_s; there = led_t; none = (tried_none root e tried, tt); over = over; fits = fits; known = known less tells })) whole.clock)
@@ -363,7 +363,7 @@ module _ (f : Form) (ids : List ℕ) (sorts : List Sort) (root : SimState) (shap
       room_t = omega (arith, fits)
 
       goes : refusal s e ≡ None → Goes f ids sorts s t e
-      goes fine = goes_either AskOnly TellNoIdleSlices f ids sorts root shapes whole out plain others s t e (tried_none root e tried) led_s led_t over room_t force_t (early (whole.left_out.waits out)) known told fine
+      goes fine = goes_either AskOnly TellNoIdleSlices f ids sorts root shapes whole out others s t e (tried_none root e tried) led_s led_t over room_t force_t (early (whole.left_out.waits out)) known told fine
 
   told_matched : IsMatchedAs f ids sorts s t (e ∷ [])
   told_matched = go h.waits refl
@@ -374,7 +374,7 @@ module _ (f : Form) (ids : List ℕ) (sorts : List Sort) (root : SimState) (shap
 
 -- ---- rows
 
-module _ (f : Form) (ids : List ℕ) (sorts : List Sort) (root : SimState) (room : ℕ) (shapes : List Shape) (whole : IsWholeInRuns root.state.policy f) (stalls : (f.waits ≡ true) ⊎ All (λ x. x ≢ sort.Stall) sorts) (plain : IsPlain root) (led : IsLed shapes root root) (few : length ids ≤ most_queues) (fits : HasRoom Events root room) (sliceless : f.slices ≡ false) (timeless : f.run_ns ≡ false) (unread : AskAnyhow LoadsNoCount root.state.policy) (free : has_quota root.state.world.tree.groups ≡ false) (xs : List ℕ) (s t : SimState) (reached : IsReached Events root s) (near : IsNear root room t) (seen : IsAudited f Events sorts root room t near) (here : IsWritten f ids xs s) (there : IsWritten f ids xs t) where
+module _ (f : Form) (ids : List ℕ) (sorts : List Sort) (root : SimState) (room : ℕ) (shapes : List Shape) (whole : IsWholeInRuns root.state.policy f) (stalls : (f.waits ≡ true) ⊎ All (λ x. x ≢ sort.Stall) sorts) (sizes : HasFew root) (plain : are_linux root.state.world.rules ≡ false) (led : IsLed shapes root root) (few : length ids ≤ most_queues) (fits : HasRoom Events root room) (sliceless : f.slices ≡ false) (timeless : f.run_ns ≡ false) (unread : AskAnyhow LoadsNoCount root.state.policy) (free : has_quota root.state.world.tree.groups ≡ false) (xs : List ℕ) (s t : SimState) (reached : IsReached Events root s) (near : IsNear root room t) (seen : IsAudited f Events sorts root room t near) (here : IsWritten f ids xs s) (there : IsWritten f ids xs t) where
   led_s : IsLed shapes root s
   led_s = led_reached Events root room shapes led fits s t (Clock ∷ []) reached near (Clock, tt, refl)
 
@@ -402,12 +402,12 @@ module _ (f : Form) (ids : List ℕ) (sorts : List Sort) (root : SimState) (room
       let m = lent s v in
       let led_m = led_lent shapes root s v led_s in
       let whole_g = with_slices true root.state.policy f whole in
-      let again = retold AskOnly TellNoIdleSlices shapes root plain f ids whole s v suited suited_v here.known is.known told in
+      let again = retold AskOnly TellNoIdleSlices shapes root sizes f ids whole s v suited suited_v here.known is.known told in
       let x : IsMatchedAs f ids sorts m v (e ∷ []) =
-      told_matched f ids sorts root shapes whole stalls plain m v e tried led_m led_v over_s fits_v force early run
+      told_matched f ids sorts root shapes whole stalls m v e tried led_m led_v over_s fits_v force early run
       (λ less keeps.
-      let k = kept_told AskOnly TellNoIdleSlices g ids root shapes whole_g plain m v led_m led_v reached.force force refl here.known is.known again less keeps in
-      record { here = k.here; there = k.there; clock = k.clock; quota = k.quota; on = k.on; back = k.back }) in
+      let k = kept_told AskOnly TellNoIdleSlices g ids root shapes whole_g sizes m v led_m led_v reached.force force refl here.known is.known again less keeps in
+      record { here = k.here; there = k.there; clock = k.clock; quota = k.quota; on = k.on; back = k.back; ticks = k.ticks; ticks_back = k.ticks_back }) in
       let alike = counts_change_nothing s m e (plainly f ids shapes root whole.pushes sliceless timeless plain free unread s led_s reached.force room_s) (ne_eqb s.events max_events (λ o. omega (arith, room_s, o))) (lent_same s v) met in
       through f ids sorts sliceless timeless s m v e alike x
 
@@ -444,7 +444,7 @@ module _ (f : Form) (ids : List ℕ) (sorts : List Sort) (root : SimState) (room
   told_t = words_keep shapes root f ids xs whole.names few s t suited_s suited_t here there
 
   same_cpus : s.state.world.cpus ≡ t.state.world.cpus
-  same_cpus = cpus_same AskOnly TellNoIdleSlices shapes root plain f ids whole s t suited_s suited_t here.known there.known told_t
+  same_cpus = cpus_same AskOnly TellNoIdleSlices shapes root sizes f ids whole s t suited_s suited_t here.known there.known told_t
 
   module _ (c : ℕ) (tried : c < length root.state.world.cpus) (room_s : s.events < max_events) where
     tick_tried : IsTried root (Tick c)
@@ -474,7 +474,7 @@ module _ (f : Form) (ids : List ℕ) (sorts : List Sort) (root : SimState) (room
       busy = ap (λ (x : Bool). not x && is_put_nowhere (entry_of s.state.world.queues u)) (on_that s.state.world.cpus c u runs)
 
       ends_there : is_endless a ≡ is_endless b
-      ends_there = ends_same AskOnly TellNoIdleSlices shapes root plain f ids whole s t suited_s suited_t here.known there.known told_t u known_u busy
+      ends_there = ends_same AskOnly TellNoIdleSlices shapes root sizes f ids whole s t suited_s suited_t here.known there.known told_t u known_u busy
 
       endless : is_endless a ≡ true → IsFollowed f ids Events sorts root s t (Tick c ∷ [])
       endless e =
@@ -589,7 +589,7 @@ module _ (f : Form) (ids : List ℕ) (sorts : List Sort) (root : SimState) (room
 
 -- ---- the law
 
-module _ (f : Form) (ids : List ℕ) (sorts : List Sort) (root : SimState) (room : ℕ) (shapes : List Shape) (whole : IsWholeInRuns root.state.policy f) (others : All (λ x. x ≢ sort.Stall) sorts) (kept : f.slices ≡ true) (plain : IsPlain root) (led : IsLed shapes root root) (few : length ids ≤ most_queues) (fits : HasRoom Events root room) where
+module _ (f : Form) (ids : List ℕ) (sorts : List Sort) (root : SimState) (room : ℕ) (shapes : List Shape) (whole : IsWholeInRuns root.state.policy f) (others : All (λ x. x ≢ sort.Stall) sorts) (kept : f.slices ≡ true) (sizes : HasFew root) (led : IsLed shapes root root) (few : length ids ≤ most_queues) (fits : HasRoom Events root room) where
   -- an event is followed by itself where slices are kept, and waits aren't
   by_itself : FollowsRuns f ids Events sorts root room
   by_itself xs s t es reached near seen here there move =
@@ -599,18 +599,18 @@ module _ (f : Form) (ids : List ℕ) (sorts : List Sort) (root : SimState) (room
       let led_s = led_reached Events root room shapes led fits s t (e ∷ []) reached near one in
       let led_t = led_near Events root room shapes led fits s t (e ∷ []) reached near one in
       let x : IsMatchedAs f ids sorts s t (e ∷ []) =
-      told_matched f ids sorts root shapes whole (inr others) plain s t e move.1 led_s led_t (over_reached Events root room shapes led fits s t (e ∷ []) reached near one) (fits_near Events root room shapes led fits s t (e ∷ []) reached near one) near.force seen.early (seen.run (e ∷ []) is)
-      (written_told AskOnly TellNoIdleSlices f ids root shapes whole plain s t led_s led_t reached.force near.force kept xs few here there) in
+      told_matched f ids sorts root shapes whole (inr others) s t e move.1 led_s led_t (over_reached Events root room shapes led fits s t (e ∷ []) reached near one) (fits_near Events root room shapes led fits s t (e ∷ []) reached near one) near.force seen.early (seen.run (e ∷ []) is)
+      (written_told AskOnly TellNoIdleSlices f ids root shapes whole sizes s t led_s led_t reached.force near.force kept xs few here there) in
       subst (IsFollowed f ids Events sorts root s t) (sym move.2) (record { other = e ∷ []; move = inr is; free = x.free; there = x.there; written = x.written })
 
 pub forms_whole_in_runs_are_followed : FormsWholeInRunsAreFollowed
-forms_whole_in_runs_are_followed f ids moves sorts root room shapes whole stalls leaves plain led few fits = go f.slices refl leaves
+forms_whole_in_runs_are_followed f ids moves sorts root room shapes whole stalls leaves sizes led few fits = go f.slices refl leaves
   where
     kept : f.slices ≡ true → AsksNoStalls f moves sorts → FollowsRuns f ids moves sorts root room
-    kept e (inl waits) = respected_followed f ids moves sorts root room e (forms_whole_in_runs_are_respected f ids moves sorts root room shapes whole e (inl waits) plain led few fits)
+    kept e (inl waits) = respected_followed f ids moves sorts root room e (forms_whole_in_runs_are_respected f ids moves sorts root room shapes whole e (inl waits) sizes led few fits)
     kept e (inr o) =
         subst (λ (m : Moves). FollowsRuns f ids m sorts root room) (sym o.0)
-        (by_itself f ids sorts root room shapes whole o.1 e plain led few (subst (λ (m : Moves). HasRoom m root room) o.0 fits))
+        (by_itself f ids sorts root room shapes whole o.1 e sizes led few (subst (λ (m : Moves). HasRoom m root room) o.0 fits))
 
     no_stalls : AsksNoStalls f moves sorts → (f.waits ≡ true) ⊎ All (λ x. x ≢ sort.Stall) sorts
     no_stalls (inl waits) = inl waits
@@ -622,10 +622,10 @@ forms_whole_in_runs_are_followed f ids moves sorts root room shapes whole stalls
     go false e (inr l) =
         subst (λ (m : Moves). FollowsRuns f ids m sorts root room) (sym l.0)
         (λ xs s t es reached near seen here there move.
-        follows f ids sorts root room shapes whole (no_stalls stalls) plain led few (subst (λ (m : Moves). HasRoom m root room) l.0 fits) e l.1 l.2 l.3 xs s t reached near seen here there es move)
+        follows f ids sorts root room shapes whole (no_stalls stalls) sizes l.4 led few (subst (λ (m : Moves). HasRoom m root room) l.0 fits) e l.1 l.2 l.3 xs s t reached near seen here there es move)
 
 -- a closed table of a whole form leaves no list out
 pub told_whole : {E : Type 0} (c : Claim) (root : SimState) (room : ℕ) (r : Result Bool E) → IfOk r (λ b. b ≡ true → IsClosed c root room) → IfOk r (λ b. b ≡ true → AreNumbersOf root c.ids) → IfOk r (λ b. b ≡ true → NeedsNoPremise c.form c.moves c.limit c.sorts root room)
-told_whole c root room (Ok b) shut numbers = λ is p tree cpus first shape flags timeout whole stalls leaves plain fits.
-    closed_tables_cover c root room (forms_whole_in_runs_are_followed c.form c.ids c.moves c.sorts root room p.shapes whole stalls leaves plain (first_led p tree cpus root shape flags timeout first) (numbers is).few fits) (shut is)
+told_whole c root room (Ok b) shut numbers = λ is p tree cpus first shape flags timeout whole stalls leaves sizes fits.
+    closed_tables_cover c root room (forms_whole_in_runs_are_followed c.form c.ids c.moves c.sorts root room p.shapes whole stalls leaves sizes (first_led p tree cpus root shape flags timeout first) (numbers is).few fits) (shut is)
 told_whole c root room (Err e) shut numbers = tt

@@ -34,7 +34,7 @@ use Rattle.scx_explore_findings.specs.HiddenStates.{late_in}
 use Rattle.scx_explore_findings.specs.IdleSlices.{is_idle_of, sliceless_if, without_slices}
 use Rattle.scx_explore_findings.specs.Unread.{is_hidden, ReadsNone}
 use Rattle.scx_explore_findings.specs.UnreadParts.{AreSame}
-use Rattle.scx_explore_findings.specs.WholeForms.{IsWholeBy, IsPlain, AreSince, IsLed}
+use Rattle.scx_explore_findings.specs.WholeForms.{IsWholeBy, HasFew, AreSince, IsLed}
 use Rattle.scx_explore_findings.proofs.Clocks.{clock_all}
 use Rattle.scx_explore_findings.proofs.EventWalk.{IsWeighing}
 use Rattle.scx_explore_findings.proofs.Led.{led_one}
@@ -171,6 +171,8 @@ module _ (h : Hidden) (out : h.waits ≡ true) where
     quota = told.quota;
     on = λ d later. subst (λ (x : SimState). AreSame (hide_machine rest (delay_machine d (resting less (waitless s)))) x) (less_machine less t) (subst (λ (x : SimState). AreSame x (hide_machine h (resting less t))) (late_machine less s d) (told.on d later));
     back = λ d later. subst (λ (x : SimState). AreSame (hide_machine rest (delay_machine d (resting less (waitless t)))) x) (less_machine less s) (subst (λ (x : SimState). AreSame x (hide_machine h (resting less s))) (late_machine less t d) (told.back d later));
+    ticks = told.ticks;
+    ticks_back = told.ticks_back;
   }
 
 -- ---- an event
@@ -224,7 +226,7 @@ clock_taken t e is room = subst (λ (v : Event). refusal t v ≡ None) (sym is) 
 
 -- ---- an event of two machines that are told of each other
 
-module _ (Ask : (Query → Type 0) → PolicyState → Type 0) (Tell : PolicyState → Type 0) (f : Form) (ids : List ℕ) (sorts : List Sort) (root : SimState) (shapes : List Shape) (whole : IsWholeBy Ask Tell root.state.policy f) (out : whole.hidden.waits ≡ true) (plain : IsPlain root) (others : All (λ x. x ≢ sort.Stall) sorts) (s t : SimState) (e : Event) (unweighing : IsWeighing e → ⊥) (led_s : IsLed shapes root s) (led_t : IsLed shapes root t) (over : s.events ≤ max_events) (room_t : t.events < max_events) (force_t : t.state.world.ejected ≡ None) (early : t.state.world.clock < t.state.policy.timeout_ms) (known : (less : Bool) → (less ≡ true → Tell root.state.policy) → Along (Tells less whole.hidden root.state.policy) t (e ∷ [])) (told : (less : Bool) → (less ≡ false → f.idle_slices ≡ true) → AreSameLater root f less whole.hidden s t) where
+module _ (Ask : (Query → Type 0) → PolicyState → Type 0) (Tell : PolicyState → Type 0) (f : Form) (ids : List ℕ) (sorts : List Sort) (root : SimState) (shapes : List Shape) (whole : IsWholeBy Ask Tell root.state.policy f) (out : whole.hidden.waits ≡ true) (others : All (λ x. x ≢ sort.Stall) sorts) (s t : SimState) (e : Event) (unweighing : IsWeighing e → ⊥) (led_s : IsLed shapes root s) (led_t : IsLed shapes root t) (over : s.events ≤ max_events) (room_t : t.events < max_events) (force_t : t.state.world.ejected ≡ None) (early : t.state.world.clock < t.state.policy.timeout_ms) (known : (less : Bool) → (less ≡ true → Tell root.state.policy) → Along (Tells less whole.hidden root.state.policy) t (e ∷ [])) (told : (less : Bool) → (less ≡ false → f.idle_slices ≡ true) → AreSameLater root f less whole.hidden s t) where
   abbrev h : Hidden
   h = whole.hidden
 
@@ -336,7 +338,7 @@ module _ (Ask : (Query → Type 0) → PolicyState → Type 0) (Tell : PolicySta
         go None late =
             by_slices f (Tell p) (Goes f ids sorts s t e) whole.idle_slices
             (λ less keeps tells leaves.
-            paired root f ids whole.pushes plain.rules less (rest h out) refl a (waitless t)
+            paired root f ids whole.pushes less (rest h out) refl a (waitless t)
             (told_waitless h out root f less s t (told less keeps)) (Goes f ids sorts s t e)
             (λ R linked pair. goes less tells leaves R linked pair late) whole.clock)
         go (Some u) late =
@@ -350,7 +352,7 @@ module _ (Ask : (Query → Type 0) → PolicyState → Type 0) (Tell : PolicySta
 
 -- ---- and of two that are written as the same words
 
-module _ (Ask : (Query → Type 0) → PolicyState → Type 0) (Tell : PolicyState → Type 0) (f : Form) (ids : List ℕ) (sorts : List Sort) (root : SimState) (room : ℕ) (shapes : List Shape) (whole : IsWholeBy Ask Tell root.state.policy f) (out : whole.hidden.waits ≡ true) (slices : f.slices ≡ true) (plain : IsPlain root) (led : IsLed shapes root root) (few : length ids ≤ most_queues) (fits : HasRoom Events root room) (brief : root.state.world.clock + room ≤ root.state.policy.timeout_ms) (others : All (λ x. x ≢ sort.Stall) sorts) (xs : List ℕ) (s t : SimState) (e : Event) (reached : IsReached Events root s) (near : IsNear root room t) (known : (less : Bool) → (less ≡ true → Tell root.state.policy) → Along (Tells less whole.hidden root.state.policy) t (e ∷ [])) (here : IsWritten f ids xs s) (there : IsWritten f ids xs t) (tried : IsTried root e) where
+module _ (Ask : (Query → Type 0) → PolicyState → Type 0) (Tell : PolicyState → Type 0) (f : Form) (ids : List ℕ) (sorts : List Sort) (root : SimState) (room : ℕ) (shapes : List Shape) (whole : IsWholeBy Ask Tell root.state.policy f) (out : whole.hidden.waits ≡ true) (slices : f.slices ≡ true) (sizes : HasFew root) (led : IsLed shapes root root) (few : length ids ≤ most_queues) (fits : HasRoom Events root room) (brief : root.state.world.clock + room ≤ root.state.policy.timeout_ms) (others : All (λ x. x ≢ sort.Stall) sorts) (xs : List ℕ) (s t : SimState) (e : Event) (reached : IsReached Events root s) (near : IsNear root room t) (known : (less : Bool) → (less ≡ true → Tell root.state.policy) → Along (Tells less whole.hidden root.state.policy) t (e ∷ [])) (here : IsWritten f ids xs s) (there : IsWritten f ids xs t) (tried : IsTried root e) where
   led_s : IsLed shapes root s
   led_s = led_reached Events root room shapes led fits s t (e ∷ []) reached near (e, tried, refl)
 
@@ -374,5 +376,5 @@ module _ (Ask : (Query → Type 0) → PolicyState → Type 0) (Tell : PolicySta
   pub matched_event : IsMatched f ids Events sorts root s t (e ∷ [])
   matched_event =
       matched_one f ids sorts root s t e tried
-      (goes_either Ask Tell f ids sorts root shapes whole out plain others s t e (tried_none root e tried) led_s led_t (over_reached Events root room shapes led fits s t (e ∷ []) reached near (e, tried, refl)) room_t near.force early known
-      (written_told Ask Tell f ids root shapes whole plain s t led_s led_t reached.force near.force slices xs few here there))
+      (goes_either Ask Tell f ids sorts root shapes whole out others s t e (tried_none root e tried) led_s led_t (over_reached Events root room shapes led fits s t (e ∷ []) reached near (e, tried, refl)) room_t near.force early known
+      (written_told Ask Tell f ids root shapes whole sizes s t led_s led_t reached.force near.force slices xs few here there))

@@ -23,7 +23,7 @@ use Rattle.scx_explore_findings.specs.declared.finding.Sort.{Sort}
 use Rattle.scx_explore_findings.specs.Findings.{fault_in, stall_in, exit_in, IsIdleBehind}
 use Rattle.scx_explore_findings.specs.declared.finding.Sort.TheVariants as sort
 use Rattle.scx_explore_findings.specs.Asked.{AskOnly}
-use Rattle.scx_explore_findings.specs.Delayed.{later_by, delayed_task, delayed_eject, delay, delay_machine, AreClockless, IsSteady, AnswersLater}
+use Rattle.scx_explore_findings.specs.Delayed.{later_by, delayed_task, delayed_eject, delay, delay_machine, AreClockless, IsSteady, IsWholeTicks, AnswersLater}
 use Rattle.scx_explore_findings.specs.Hidden.{Hidden, since_unless, hidden_in, all_hidden, with_tasks}
 use Rattle.scx_explore_findings.specs.HiddenLaws.{LeavesOut}
 use Rattle.scx_explore_findings.specs.HiddenMachines as hidden
@@ -35,7 +35,7 @@ use Rattle.scx_explore_findings.specs.HiddenMachines.{hide_machine}
 use Rattle.scx_explore_findings.specs.QueueOrder.{unnumbered, AreAsQueues}
 use Rattle.scx_explore_findings.specs.Unread.{ReadsNone}
 use Rattle.scx_explore_findings.specs.UnreadParts.{AreSame, AnswersAlike, parts_of, with_parts}
-use Rattle.scx_explore_findings.specs.WholeForms.{TellsNoTime, IsWholeBy, IsPlain, IsLed}
+use Rattle.scx_explore_findings.specs.WholeForms.{IsWholeBy, HasFew, IsLed}
 use Rattle.scx_explore_findings.proofs.DelayedMachines.{events_dont_tell_times, fault_shown, stall_shown, exit_shown, force_back, idle_back, idle_on, written_back, written_on, delay_none}
 use Rattle.scx_explore_findings.proofs.EventWalk.{IsWeighing}
 use Rattle.scx_explore_findings.proofs.Led.{AreUnweighing, led_one, led_all, led_suited}
@@ -47,12 +47,12 @@ use Rattle.scx_explore_findings.proofs.Steps.{TellNothing, AskNone}
 use Rattle.scx_explore_findings.proofs.Shown.{same_machines_show_the_same, idle_shown}
 use Rattle.scx_explore_findings.proofs.SameMachines.{events_read_no_such_part, counted, room_for_one, room_for_rest, one_longer, states_back}
 use Rattle.scx_explore_findings.proofs.SameShown.{such_parts_show_nothing}
-use Rattle.scx_explore_findings.proofs.SameTold.{IsSuited, rested, resting, words_keep, clock_kept, clock_told, whole_told}
+use Rattle.scx_explore_findings.proofs.SameTold.{IsSuited, rested, resting, words_keep, clock_kept, clock_told, ticks_between, whole_told}
 use Rattle.scx_explore_findings.proofs.UnusedGroups.{unused, unused_is_steady, unused_there, unused_here, same_itself}
 use Rattle.scx_explore_states.specs.Rows.{entries_of}
 use Rattle.scx_explore_states.specs.Telling.{KeepTheSame}
 use Rattle.scx_explore_states.specs.Words.{most_queues}
-use Rattle.scx_explore_states.specs.Written.{AreKnown, IsWritten}
+use Rattle.scx_explore_states.specs.Written.{past_tick, AreKnown, IsWritten}
 use Rattle.scx_explore_states.specs.declared.form.Form.{Form}
 use Rattle.scx_explore_audit.specs.declared.table.Moves.{Moves}
 use Rattle.scx_explore_audit.specs.declared.table.Moves.TheVariants.{Events, Milliseconds}
@@ -299,6 +299,17 @@ shown_both f ids a b c x y = record {
   written = λ xs is. x.written xs (y.written xs is);
 }
 
+-- where both are out of force for the same cause, if they are
+shown_so : (f : Form) (ids : List ℕ) (s t : SimState) → s.state.world.ejected ≡ t.state.world.ejected → ((e : Event) → IsIdleBehind t e None → IsIdleBehind s e None) → ((xs : List ℕ) → IsWritten f ids xs t → IsWritten f ids xs s) → ShowsLess f ids s t
+shown_so f ids s t ejected idle written = record {
+  force = λ is. sym ejected ∙ is;
+  faults = ap fault_in ejected;
+  stalls = ap stall_in ejected;
+  exits = ap exit_in ejected;
+  idle = idle;
+  written = written;
+}
+
 -- ---- machines of the same time
 
 module _ (root : SimState) (f : Form) (ids : List ℕ) (none : f.pushes ≡ false) where
@@ -307,14 +318,7 @@ module _ (root : SimState) (f : Form) (ids : List ℕ) (none : f.pushes ≡ fals
   shown_parts s t same =
       let there = such_parts_show_nothing s t same in
       let back = such_parts_show_nothing t s (states_back false s.state t.state same) in
-      record {
-        force = λ is. sym there.ejected ∙ is;
-        faults = ap fault_in there.ejected;
-        stalls = ap stall_in there.ejected;
-        exits = ap exit_in there.ejected;
-        idle = λ e is. back.idle e None is;
-        written = λ xs is. back.written f ids xs none is;
-      }
+      shown_so f ids s t there.ejected (λ e is. back.idle e None is) (λ xs is. back.written f ids xs none is)
 
   parts_linked : AreLinked root f ids AnyKnown AreSame
   parts_linked = record {
@@ -325,26 +329,35 @@ module _ (root : SimState) (f : Form) (ids : List ℕ) (none : f.pushes ≡ fals
 
 -- ---- machines of two times
 
--- the second machine is as the first one would be if all times were later, but for unread parts; no group has a quota,
--- and the machine goes by plain rules
-record AreTimed (p : PolicyState) (s t : SimState) : Type 0 where
+-- a time is made of whole ticks in any state under that policy, by those rules
+whole_as : (k : ℕ) (s t : State) → s.policy ≡ t.policy → s.world.rules ≡ t.world.rules → IsWholeTicks k s → IsWholeTicks k t
+whole_as k s t policy rules whole linux = ap (λ (p : PolicyState). past_tick p.tick_ms k) (sym policy) ∙ whole (ap are_linux rules ∙ linux)
+
+-- the second machine is as the first one would be if all times were later, by whole ticks under Linux rules, but for unread
+-- parts; no group has a quota
+record AreTimed (root s t : SimState) : Type 0 where
   pub later : ℕ
   pub other : SimState
   pub events : other.events ≡ s.events
   pub before : AreSame s other
   pub steady : IsSteady other.state
   pub free : has_quota other.state.world.tree.groups ≡ false
-  pub rules : are_linux other.state.world.rules ≡ false
-  pub policy : other.state.policy ≡ p
+  pub rules : other.state.world.rules ≡ root.state.world.rules
+  pub policy : other.state.policy ≡ root.state.policy
+  pub whole : IsWholeTicks later root.state
   pub after : AreSame (delay_machine later other) t
 
-module _ (root : SimState) (f : Form) (ids : List ℕ) (none : f.pushes ≡ false) (no_clock : f.clock ≡ false) (p : PolicyState) (clockless : AreClockless p) (exact : p.tick_ms ≡ 0) (free : has_quota root.state.world.tree.groups ≡ false) (rules : are_linux root.state.world.rules ≡ false) where
-  module _ (s t : SimState) (timed : AreTimed p s t) where
+module _ (root : SimState) (f : Form) (ids : List ℕ) (none : f.pushes ≡ false) (no_clock : f.clock ≡ false) (clockless : AreClockless root.state.policy) (free : has_quota root.state.world.tree.groups ≡ false) where
+  module _ (s t : SimState) (timed : AreTimed root s t) where
     z : SimState
     z = timed.other
 
     k : ℕ
     k = timed.later
+
+    whole_there : IsWholeTicks k z.state
+    unfolding z k
+    whole_there = whole_as k root.state z.state (sym timed.policy) (sym timed.rules) timed.whole
 
     parts_back : AreSame z s
     unfolding z
@@ -371,7 +384,7 @@ module _ (root : SimState) (f : Form) (ids : List ℕ) (none : f.pushes ≡ fals
       stalls = ap stall_in shown ∙ (stall_shown k z.state.world.ejected ∙ ap stall_in shown_later);
       exits = ap exit_in shown ∙ (exit_shown k z.state.world.ejected ∙ ap exit_in shown_later);
       idle = λ e is. (such_parts_show_nothing z s parts_back).idle e None (idle_back k z e ((such_parts_show_nothing t (delay_machine k z) parts_before).idle e None is));
-      written = λ xs is. (such_parts_show_nothing z s parts_back).written f ids xs none (written_back k f ids z no_clock timed.rules timed.free xs ((such_parts_show_nothing t (delay_machine k z) parts_before).written f ids xs none is));
+      written = λ xs is. (such_parts_show_nothing z s parts_back).written f ids xs none (written_back k f ids z no_clock whole_there timed.free xs ((such_parts_show_nothing t (delay_machine k z) parts_before).written f ids xs none is));
     }
 
     -- and the first one what the second one does
@@ -383,7 +396,7 @@ module _ (root : SimState) (f : Form) (ids : List ℕ) (none : f.pushes ≡ fals
       stalls = sym less_on.stalls;
       exits = sym less_on.exits;
       idle = λ e is. (such_parts_show_nothing (delay_machine k z) t timed.after).idle e None (idle_on k z e ((such_parts_show_nothing s z timed.before).idle e None is));
-      written = λ xs is. (such_parts_show_nothing (delay_machine k z) t timed.after).written f ids xs none (written_on k f ids z no_clock timed.rules timed.free xs ((such_parts_show_nothing s z timed.before).written f ids xs none is));
+      written = λ xs is. (such_parts_show_nothing (delay_machine k z) t timed.after).written f ids xs none (written_on k f ids z no_clock whole_there timed.free xs ((such_parts_show_nothing s z timed.before).written f ids xs none is));
     }
 
     module _ (e : Event) (room : s.events < max_events) (room_t : t.events < max_events) where
@@ -397,7 +410,7 @@ module _ (root : SimState) (f : Form) (ids : List ℕ) (none : f.pushes ≡ fals
 
       as_later : AnswersLater k z e
       unfolding z
-      as_later = events_dont_tell_times k z e (subst AreClockless (sym timed.policy) clockless) (ap (λ (x : PolicyState). x.tick_ms) timed.policy ∙ exact) timed.steady
+      as_later = events_dont_tell_times k z e (subst AreClockless (sym timed.policy) clockless) whole_there timed.steady
 
       as_last : AnswersAlike (delay_machine k z) t e
       unfolding z k
@@ -415,7 +428,7 @@ module _ (root : SimState) (f : Form) (ids : List ℕ) (none : f.pushes ≡ fals
           go None = ap (λ (n : ℕ). n + 1) timed.events
           go (Some r) = timed.events
 
-      after_timed : IsOf root (after_event s e) → AreTimed p (after_event s e) (after_event t e)
+      after_timed : IsOf root (after_event s e) → AreTimed root (after_event s e) (after_event t e)
       unfolding z k
       after_timed here =
           let s1 = after_event s e in
@@ -430,19 +443,20 @@ module _ (root : SimState) (f : Form) (ids : List ℕ) (none : f.pushes ≡ fals
             before = unused_there s1.state z1.state free_s as_parts.after;
             steady = unused_is_steady z1.state;
             free = free_z;
-            rules = sym (ap (λ (x : State). are_linux x.world.rules) as_parts.after.rest) ∙ (ap are_linux here.rules ∙ rules);
+            rules = sym (ap (λ (x : State). x.world.rules) as_parts.after.rest) ∙ here.rules;
             policy = policy_after z e ∙ timed.policy;
+            whole = timed.whole;
             after = unused_here (delay_machine k z1).state (after_event t e).state free_z moved;
           }
 
-  timed_linked : AreLinked root f ids AnyKnown (AreTimed p)
+  timed_linked : AreLinked root f ids AnyKnown (AreTimed root)
   timed_linked = record {
     shows = λ s t timed. less_on s t timed;
     refused = λ s t e timed room there. refused_timed s t timed e room there;
     after = λ s t e timed known of_s of_t room there. after_timed s t timed e room there of_s;
   }
 
-  timed_back : AreLinked root f ids AnyKnown (λ s t. AreTimed p t s)
+  timed_back : AreLinked root f ids AnyKnown (λ s t. AreTimed root t s)
   timed_back = record {
     shows = λ s t timed. less_back t s timed;
     refused = λ s t e timed room there. sym (refused_timed t s timed e there room);
@@ -489,14 +503,7 @@ module _ (f : Form) (ids : List ℕ) (less : Bool) (h : Hidden) (out : LeavesOut
   shown_hidden s t same =
       let there = same_machines_show_the_same h s t same in
       let back = same_machines_show_the_same h t s (sym same) in
-      record {
-        force = λ is. sym there.ejected ∙ is;
-        faults = ap fault_in there.ejected;
-        stalls = ap stall_in there.ejected;
-        exits = ap exit_in there.ejected;
-        idle = λ e is. back.idle e None is;
-        written = λ xs is. back.written f ids xs out is;
-      }
+      shown_so f ids s t there.ejected (λ e is. back.idle e None is) (λ xs is. back.written f ids xs out is)
 
   -- nor do these slices
   shown_rested : (b : Bool) → (b ≡ true → f.idle_slices ≡ false) → (s t : SimState) → IsRested b s t → ShowsLess f ids s t
@@ -712,7 +719,7 @@ pub record IsFrom (root s : SimState) : Type 0 where
 pub from_led : (shapes : List Shape) (root s : SimState) → IsLed shapes root s → IsFrom root s
 from_led shapes root s led = record { policy = led.policy; same = is_of shapes root s led; stamped = led.fine.sound.stamped }
 
--- both are the same without what is left out, once one is as late as the other
+-- both are the same without what is left out, once one is as late as the other, by whole ticks under Linux rules
 pub record AreSameLater (root : SimState) (f : Form) (less : Bool) (h : Hidden) (s t : SimState) : Type 0 where
   pub here : IsFrom root s
   pub there : IsFrom root t
@@ -720,11 +727,13 @@ pub record AreSameLater (root : SimState) (f : Form) (less : Bool) (h : Hidden) 
   pub quota : has_quota root.state.world.tree.groups ≡ true → s.state.world.clock ≡ t.state.world.clock
   pub on : (d : ℕ) → s.state.world.clock + d ≡ t.state.world.clock → AreSame (hide_machine h (delay_machine d (resting less s))) (hide_machine h (resting less t))
   pub back : (d : ℕ) → t.state.world.clock + d ≡ s.state.world.clock → AreSame (hide_machine h (delay_machine d (resting less t))) (hide_machine h (resting less s))
+  pub ticks : (d : ℕ) → s.state.world.clock + d ≡ t.state.world.clock → IsWholeTicks d s.state
+  pub ticks_back : (d : ℕ) → t.state.world.clock + d ≡ s.state.world.clock → IsWholeTicks d t.state
 
 -- a machine that is the same as that one, but for records of tasks, and another one that is the same later
-timed_so : (root : SimState) → are_linux root.state.world.rules ≡ false → has_quota root.state.world.tree.groups ≡ false → (x y z : SimState) → IsFrom root x → (d : ℕ) → (ts : List Task) → z ≡ record x { state = with_world x.state (with_tasks x.state.world ts) } → AreSame (delay_machine d z) y
-    → AreTimed root.state.policy z y
-timed_so root rules free x y z l d ts is same =
+timed_so : (root : SimState) → has_quota root.state.world.tree.groups ≡ false → (x y z : SimState) → IsFrom root x → (d : ℕ) → IsWholeTicks d x.state → (ts : List Task) → z ≡ record x { state = with_world x.state (with_tasks x.state.world ts) } → AreSame (delay_machine d z) y
+    → AreTimed root z y
+timed_so root free x y z l d ticks ts is same =
     let groups : z.state.world.tree.groups ≡ x.state.world.tree.groups = ap (λ (u : SimState). u.state.world.tree.groups) is in
     let free_z : has_quota z.state.world.tree.groups ≡ false = ap has_quota groups ∙ (ap has_quota l.same.groups ∙ free) in
     record {
@@ -734,12 +743,13 @@ timed_so root rules free x y z l d ts is same =
       before = unused_there z.state z.state free_z (same_itself z.state (subst (λ (u : SimState). IsStamped u.state.world.queues) (sym is) l.stamped));
       steady = unused_is_steady z.state;
       free = free_z;
-      rules = ap (λ (u : SimState). are_linux u.state.world.rules) is ∙ (ap are_linux l.same.rules ∙ rules);
+      rules = ap (λ (u : SimState). u.state.world.rules) is ∙ l.same.rules;
       policy = ap (λ (u : SimState). u.state.policy) is ∙ l.policy;
+      whole = whole_as d x.state root.state l.policy l.same.rules ticks;
       after = unused_here (delay_machine d z).state y.state free_z same;
     }
 
-module _ (root : SimState) (f : Form) (ids : List ℕ) (pushes : f.pushes ≡ false) (rules : are_linux root.state.world.rules ≡ false) (less : Bool) (h : Hidden) (stay : h.waits ≡ false) (s t : SimState) (told : AreSameLater root f less h s t) (C : Type 0) (so : (R : SimState → SimState → Type 0) → AreLinked root f ids AnyKnown R → AreOmitted less h root.state.policy R s t → C) where
+module _ (root : SimState) (f : Form) (ids : List ℕ) (pushes : f.pushes ≡ false) (less : Bool) (h : Hidden) (stay : h.waits ≡ false) (s t : SimState) (told : AreSameLater root f less h s t) (C : Type 0) (so : (R : SimState → SimState → Type 0) → AreLinked root f ids AnyKnown R → AreOmitted less h root.state.policy R s t → C) where
   -- at the same time
   at_once : s.state.world.clock ≡ t.state.world.clock → C
   at_once same =
@@ -751,23 +761,23 @@ module _ (root : SimState) (f : Form) (ids : List ℕ) (pushes : f.pushes ≡ fa
         policy = told.there.policy;
       })
 
-  module _ (time : TellsNoTime root.state.policy) (no_clock : f.clock ≡ false) (free : has_quota root.state.world.tree.groups ≡ false) where
+  module _ (clockless : AreClockless root.state.policy) (no_clock : f.clock ≡ false) (free : has_quota root.state.world.tree.groups ≡ false) where
     -- where the second one is earlier
-    earlier_there : (d : ℕ) → AreSame (hide_machine h (delay_machine d (resting less t))) (hide_machine h (resting less s)) → C
-    earlier_there d now =
-        so (λ x y. AreTimed root.state.policy y x) (timed_back root f ids pushes no_clock root.state.policy time.clockless time.exact free rules) (record {
+    earlier_there : (d : ℕ) → IsWholeTicks d t.state → AreSame (hide_machine h (delay_machine d (resting less t))) (hide_machine h (resting less s)) → C
+    earlier_there d ticks now =
+        so (λ x y. AreTimed root y x) (timed_back root f ids pushes no_clock clockless free) (record {
           one = filled less h stay d t s now;
-          near = timed_so root rules free t s (filled less h stay d t s now) told.there d (merge less h stay d t s now).tasks (filled_is less h stay d t s now) (filled_near less h stay d t s now);
+          near = timed_so root free t s (filled less h stay d t s now) told.there d ticks (merge less h stay d t s now).tasks (filled_is less h stay d t s now) (filled_near less h stay d t s now);
           there = filled_here less h stay d t s now;
           policy = told.there.policy;
         })
 
     -- and where it is later
-    later_there : (d : ℕ) → AreSame (hide_machine h (delay_machine d (resting less s))) (hide_machine h (resting less t)) → C
-    later_there d now =
-        so (AreTimed root.state.policy) (timed_linked root f ids pushes no_clock root.state.policy time.clockless time.exact free rules) (record {
+    later_there : (d : ℕ) → IsWholeTicks d s.state → AreSame (hide_machine h (delay_machine d (resting less s))) (hide_machine h (resting less t)) → C
+    later_there d ticks now =
+        so (AreTimed root) (timed_linked root f ids pushes no_clock clockless free) (record {
           one = placed less h stay d s t now;
-          near = timed_so root rules free s (placed less h stay d s t now) s told.here d s.state.world.tasks refl (placed_near less h stay d s t now);
+          near = timed_so root free s (placed less h stay d s t now) s told.here d ticks s.state.world.tasks refl (placed_near less h stay d s t now);
           there = placed_there less h stay d s t now;
           policy = told.there.policy;
         })
@@ -776,19 +786,19 @@ module _ (root : SimState) (f : Form) (ids : List ℕ) (pushes : f.pushes ≡ fa
     at_two_times =
         let v = s.state.world.clock in
         let w = t.state.world.clock in
-        ⊎_elim (λ (l : w < v). earlier_there (v - w) (told.back (v - w) (later_than w v (earlier v w l))))
-        (λ (l : v ≤ w). later_there (w - v) (told.on (w - v) (later_than v w l)))
+        ⊎_elim (λ (l : w < v). let same = later_than w v (earlier v w l) in earlier_there (v - w) (told.ticks_back (v - w) same) (told.back (v - w) same))
+        (λ (l : v ≤ w). let same = later_than v w l in later_there (w - v) (told.ticks (w - v) same) (told.on (w - v) same))
         (cases_lt w v)
 
   -- such two are a pair with another machine between them, whether or not the clock is told
-  pub paired : (f.clock ≡ true) ⊎ TellsNoTime root.state.policy → C
+  pub paired : (f.clock ≡ true) ⊎ AreClockless root.state.policy → C
   paired clock = go f.clock (has_quota root.state.world.tree.groups) refl refl clock
     where
-      go : (b c : Bool) → f.clock ≡ b → has_quota root.state.world.tree.groups ≡ c → (f.clock ≡ true) ⊎ TellsNoTime root.state.policy → C
+      go : (b c : Bool) → f.clock ≡ b → has_quota root.state.world.tree.groups ≡ c → (f.clock ≡ true) ⊎ AreClockless root.state.policy → C
       go true c e q o = at_once (told.clock e)
       go false true e q o = at_once (told.quota q)
       go false false e q (inl is) = at_once (told.clock is)
-      go false false e q (inr time) = at_two_times time e q
+      go false false e q (inr clockless) = at_two_times clockless e q
 
 -- slices of tasks that sleep or are held are left out, or not
 pub by_slices : (f : Form) (X C : Type 0) → (f.idle_slices ≡ true) ⊎ X → ((less : Bool) → (less ≡ false → f.idle_slices ≡ true) → (less ≡ true → X) → (less ≡ true → f.idle_slices ≡ false) → C) → C
@@ -823,7 +833,7 @@ keep_back f ids s t many told = record {
 }
 
 -- two machines by a form that keeps all that programs read, and slices
-module _ (Ask : (Query → Type 0) → PolicyState → Type 0) (Tell : PolicyState → Type 0) (f : Form) (ids : List ℕ) (root : SimState) (shapes : List Shape) (whole : IsWholeBy Ask Tell root.state.policy f) (plain : IsPlain root) (s t : SimState) (led_s : IsLed shapes root s) (led_t : IsLed shapes root t) (force_s : s.state.world.ejected ≡ None) (force_t : t.state.world.ejected ≡ None) (slices : f.slices ≡ true) where
+module _ (Ask : (Query → Type 0) → PolicyState → Type 0) (Tell : PolicyState → Type 0) (f : Form) (ids : List ℕ) (root : SimState) (shapes : List Shape) (whole : IsWholeBy Ask Tell root.state.policy f) (sizes : HasFew root) (s t : SimState) (led_s : IsLed shapes root s) (led_t : IsLed shapes root t) (force_s : s.state.world.ejected ≡ None) (force_t : t.state.world.ejected ≡ None) (slices : f.slices ≡ true) where
   suited_s : IsSuited shapes root s
   suited_s = led_suited shapes root s force_s led_s
 
@@ -837,10 +847,12 @@ module _ (Ask : (Query → Type 0) → PolicyState → Type 0) (Tell : PolicySta
       record {
         here = from_led shapes root s led_s;
         there = from_led shapes root t led_t;
-        clock = clock_kept Ask Tell shapes root plain f ids whole s t suited_s suited_t known known_there told;
-        quota = λ q. clock_told Ask Tell shapes root plain f ids whole s t suited_s suited_t known known_there told (sym (ap has_quota led_s.tidy.1.0.0) ∙ q);
-        on = λ d later. whole_told Ask Tell shapes root plain f ids whole s t suited_s suited_t known known_there told less keeps slices d later;
-        back = λ d later. whole_told Ask Tell shapes root plain f ids whole t s suited_t suited_s known_there known back less keeps slices d later;
+        clock = clock_kept Ask Tell shapes root sizes f ids whole s t suited_s suited_t known known_there told;
+        quota = λ q. clock_told Ask Tell shapes root sizes f ids whole s t suited_s suited_t known known_there told (sym (ap has_quota led_s.tidy.1.0.0) ∙ q);
+        on = λ d later. whole_told Ask Tell shapes root sizes f ids whole s t suited_s suited_t known known_there told less keeps slices d later;
+        back = λ d later. whole_told Ask Tell shapes root sizes f ids whole t s suited_t suited_s known_there known back less keeps slices d later;
+        ticks = λ d later. ticks_between Ask Tell shapes root sizes f ids whole s t suited_s suited_t known known_there told d later;
+        ticks_back = λ d later. ticks_between Ask Tell shapes root sizes f ids whole t s suited_t suited_s known_there known back d later;
       }
 
   -- and which are written as the same words
@@ -867,7 +879,7 @@ module _ (moves : Moves) (root : SimState) (room : ℕ) (shapes : List Shape) (l
       near_fits t.events root.events (length near.events) room (length es) max_events count near.few (fits es move)
 
 -- where waits are kept, it is matched by the same one
-module _ (Ask : (Query → Type 0) → PolicyState → Type 0) (Tell : PolicyState → Type 0) (f : Form) (ids : List ℕ) (moves : Moves) (sorts : List Sort) (root : SimState) (room : ℕ) (shapes : List Shape) (whole : IsWholeBy Ask Tell root.state.policy f) (stay : whole.hidden.waits ≡ false) (slices : f.slices ≡ true) (plain : IsPlain root) (led : IsLed shapes root root) (few : length ids ≤ most_queues) (fits : HasRoom moves root room) (xs : List ℕ) (s t : SimState) (es : List Event) (reached : IsReached moves root s) (near : IsNear root room t) (known : (less : Bool) → (less ≡ true → Tell root.state.policy) → Along (Tells less whole.hidden root.state.policy) t es) (here : IsWritten f ids xs s) (there : IsWritten f ids xs t) (move : IsMove moves root es) where
+module _ (Ask : (Query → Type 0) → PolicyState → Type 0) (Tell : PolicyState → Type 0) (f : Form) (ids : List ℕ) (moves : Moves) (sorts : List Sort) (root : SimState) (room : ℕ) (shapes : List Shape) (whole : IsWholeBy Ask Tell root.state.policy f) (stay : whole.hidden.waits ≡ false) (slices : f.slices ≡ true) (sizes : HasFew root) (led : IsLed shapes root root) (few : length ids ≤ most_queues) (fits : HasRoom moves root room) (xs : List ℕ) (s t : SimState) (es : List Event) (reached : IsReached moves root s) (near : IsNear root room t) (known : (less : Bool) → (less ≡ true → Tell root.state.policy) → Along (Tells less whole.hidden root.state.policy) t es) (here : IsWritten f ids xs s) (there : IsWritten f ids xs t) (move : IsMove moves root es) where
   abbrev h : Hidden
   h = whole.hidden
 
@@ -882,7 +894,7 @@ module _ (Ask : (Query → Type 0) → PolicyState → Type 0) (Tell : PolicySta
 
   matched_by : (less : Bool) → (less ≡ false → f.idle_slices ≡ true) → (less ≡ true → Tell p) → (less ≡ true → f.idle_slices ≡ false) → IsMatched f ids moves sorts root s t es
   matched_by less keeps tells leaves =
-      paired root f ids whole.pushes plain.rules less h stay s t (written_told Ask Tell f ids root shapes whole plain s t led_s led_t reached.force near.force slices xs few here there less keeps) (IsMatched f ids moves sorts root s t es) so whole.clock
+      paired root f ids whole.pushes less h stay s t (written_told Ask Tell f ids root shapes whole sizes s t led_s led_t reached.force near.force slices xs few here there less keeps) (IsMatched f ids moves sorts root s t es) so whole.clock
     where
       so : (R : SimState → SimState → Type 0) → AreLinked root f ids AnyKnown R → AreOmitted less h p R s t → IsMatched f ids moves sorts root s t es
       so R linked pair =

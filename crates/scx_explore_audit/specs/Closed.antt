@@ -88,7 +88,7 @@ IsSurvived s (e ∷ es) =
 
 -- ---- what is presumed
 
--- What the events do in the first state some of those lists does in the second one, as far as
+-- One of those lists does in the second state as the events do in the first one, as far as
 -- anything is said of it: they show nothing where it doesn't, and words of the state after it are
 -- words of the one after them. The second list may go on where the first one ends: where a task
 -- waited too long.
@@ -152,7 +152,7 @@ HasRoomForRows f moves root room n s =
     f.slices ≡ false → moves ≡ Events
     → (e : Event) → IsTried root e → n + times s e ≤ room
 
--- What is audited of a state near the first one: as far as the moves that are tried there are
+-- A state near the first one is audited: as far as the moves that are tried there are
 -- accepted and the policy stays in force, they show nothing, and callbacks run as they were
 -- verified. Where waits are left out no task can have waited too long.
 pub record IsAudited

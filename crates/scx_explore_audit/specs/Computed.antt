@@ -1,12 +1,11 @@
 -- The forms that a search computes: what they leave out by calls is known, and what they leave out
 -- by loads and inserts is presumed of runs, or shown of those that fit.
-use Rattle.std.specs.Prelude.{◌≡◌, Bool, true, false, not, Option, Some, None}
+use Rattle.std.specs.Prelude.{◌≡◌, Bool, false, not, Option, Some, None}
 use Rattle.scx_isa_semantics.specs.declared.callbacks.Callback.{Callback}
 use Rattle.scx_isa_semantics.specs.Callbacks.{callbacks}
 use Rattle.scx_vm.specs.Programs.{VerifiedProgram}
 use Rattle.scx_load_policies.specs.Building.{IsBuilt}
 use Rattle.scx_load_policies.specs.Policies.{PolicyFile}
-use Rattle.scx_sched_world.specs.World.{are_linux}
 use Rattle.scx_sched_policy.specs.Policy.{PolicyState, program_of}
 use Rattle.scx_explore_states.specs.declared.form.Form.{Form}
 use Rattle.scx_explore_states.specs.declared.map_words.MapWords.{MapWords}
@@ -34,27 +33,23 @@ abbrev pub left_out_by : Form → Hidden
 left_out_by f =
     record { run_ns = not f.run_ns; vtime = not f.vtime; waits = not f.waits }
 
--- The form that a search computes, with waits or without, is whole, if slices end exactly, and no
--- program asks for what it leaves out of records, or tells a slice where it leaves slices out.
+-- The form that a search computes, with waits or without, is whole, if no program asks for what it
+-- leaves out of records, or tells a slice where it leaves slices out.
 abbrev pub ComputedFormsAreWhole : Type 0
 ComputedFormsAreWhole =
     (p : PolicyState) (u : Uses) (waits : Bool)
     → DoNoMore u p
-    → p.tick_ms ≡ 0
     → AreUnread (left_out_by (form_of u waits)) p
     → (tells_idle_slices u ≡ false → TellNoSlices p)
     → IsWhole p (form_of u waits)
 
 -- Nothing of that is presumed of the policy of a file: the form that is computed is whole in each
--- run, with any words of maps, if slices end exactly. By Linux rules slices of tasks that sleep or
--- are held are to be kept where a program loads a slice.
+-- run, with any words of maps.
 abbrev pub ComputedFormsAreWholeInRuns : Type 0
 ComputedFormsAreWholeInRuns =
     (file : PolicyFile) (p : PolicyState) (u : Uses) (waits : Bool) (words : MapWords)
     → IsBuilt file p
     → DoAll file.rules file.shapes file.programs callbacks no_uses u
-    → p.tick_ms ≡ 0
-    → (are_linux file.rules ≡ true → u.slice ≡ true → tells_idle_slices u ≡ true)
     → IsWholeInRuns p (record (form_of u waits) { map_words = words })
 
 -- no program of the policy of a file loads a slice or a run time, whatever it is given and

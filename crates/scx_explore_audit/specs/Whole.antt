@@ -1,8 +1,9 @@
--- A form that keeps all that programs can read leaves out nothing that matters, by plain rules.
+-- A form that keeps all that programs can read leaves out nothing that matters.
 use Rattle.std.specs.Prelude.{◌≡◌, ◌≢◌, ◌⊎◌, ℕ, ◌+◌, ◌≤◌, true, false, List, length, All, Option}
 use Rattle.scx_maps.specs.declared.shape.Shape.{Shape}
 use Rattle.scx_weights.specs.Hierarchy.{Hierarchy}
 use Rattle.scx_weights.specs.Limits.{has_quota}
+use Rattle.scx_sched_world.specs.World.{are_linux}
 use Rattle.scx_sched_machine.specs.declared.events.Event.{Event}
 use Rattle.scx_sched_policy.specs.Policy.{PolicyState, IsTimeout}
 use Rattle.scx_sched_machine.specs.Start.{is_bad_shape}
@@ -11,7 +12,7 @@ use Rattle.scx_explore_findings.specs.declared.finding.Sort.{Sort}
 use Rattle.scx_explore_findings.specs.declared.finding.Sort.TheVariants as sort
 use Rattle.scx_explore_findings.specs.Asked.{AskAnyhow}
 use Rattle.scx_explore_findings.specs.Counted.{LoadsNoCount}
-use Rattle.scx_explore_findings.specs.WholeForms.{IsWhole, IsWholeInRuns, IsPlain, IsLed}
+use Rattle.scx_explore_findings.specs.WholeForms.{IsWhole, IsWholeInRuns, HasFew, IsLed}
 use Rattle.scx_explore_states.specs.Words.{most_queues}
 use Rattle.scx_explore_states.specs.declared.form.Form.{Form}
 use Rattle.scx_explore_audit.specs.declared.table.Moves.{Moves}
@@ -33,9 +34,9 @@ MayLeaveWaits f moves sorts root room =
     ⊎ ((moves ≡ Events) × All (λ x. x ≢ sort.Stall) sorts
     × (root.state.world.clock + room ≤ root.state.policy.timeout_ms))
 
--- In lists from a machine that goes by plain rules, with no timers and with few tasks and CPUs,
--- what a form leaves out that keeps all that programs can read, and slices, changes nothing that is
--- looked for.
+-- In lists from a machine with few tasks and CPUs, and with timers by Linux rules alone, what a
+-- form leaves out that keeps all that programs can read, and slices, changes nothing that is looked
+-- for.
 abbrev pub WholeFormsAreRespected : Type 0
 WholeFormsAreRespected =
     (f : Form) (ids : List ℕ) (moves : Moves) (sorts : List Sort) (root : SimState) (room : ℕ)
@@ -43,7 +44,7 @@ WholeFormsAreRespected =
     → IsWhole root.state.policy f
     → f.slices ≡ true
     → MayLeaveWaits f moves sorts root room
-    → IsPlain root
+    → HasFew root
     → IsLed shapes root root
     → length ids ≤ most_queues
     → HasRoom moves root room
@@ -58,7 +59,7 @@ FormsWholeInRunsAreRespected =
     → IsWholeInRuns root.state.policy f
     → f.slices ≡ true
     → MayLeaveWaits f moves sorts root room
-    → IsPlain root
+    → HasFew root
     → IsLed shapes root root
     → length ids ≤ most_queues
     → HasRoom moves root room
@@ -68,13 +69,15 @@ FormsWholeInRunsAreRespected =
 abbrev pub AsksNoStalls : Form → Moves → List Sort → Type 0
 AsksNoStalls f moves sorts = (f.waits ≡ true) ⊎ ((moves ≡ Events) × All (λ x. x ≢ sort.Stall) sorts)
 
--- the form keeps slices, or lists are of events, no group has a quota, and no program asks for a
--- slice or a run time, which the form leaves out too, whatever it is given and answered
+-- the form keeps slices, or lists are of events by plain rules, no group has a quota, and no
+-- program asks for a slice or a run time, which the form leaves out too, whatever it is given and
+-- answered
 abbrev pub MayLeaveSlices : Form → Moves → SimState → Type 0
 MayLeaveSlices f moves root =
     (f.slices ≡ true)
     ⊎ ((moves ≡ Events) × (f.run_ns ≡ false) × AskAnyhow LoadsNoCount root.state.policy
-    × (has_quota root.state.world.tree.groups ≡ false))
+    × (has_quota root.state.world.tree.groups ≡ false)
+    × (are_linux root.state.world.rules ≡ false))
 
 -- And where such a form leaves out slices, rows of ticks are followed.
 abbrev pub FormsWholeInRunsAreFollowed : Type 0
@@ -84,14 +87,14 @@ FormsWholeInRunsAreFollowed =
     → IsWholeInRuns root.state.policy f
     → AsksNoStalls f moves sorts
     → MayLeaveSlices f moves root
-    → IsPlain root
+    → HasFew root
     → IsLed shapes root root
     → length ids ≤ most_queues
     → HasRoom moves root room
     → FollowsRuns f ids moves sorts root room
 
 -- Nothing is presumed of such a form: no list of such moves shows anything of these sorts, from the
--- first state of a policy by plain rules, on a machine of a good shape.
+-- first state of a policy, on a machine of a good shape.
 abbrev pub NeedsNoPremise : Form → Moves → Option ℕ → List Sort → SimState → ℕ → Type 0
 NeedsNoPremise f moves limit sorts root room =
     (p : PolicyState) (tree : Hierarchy) (cpus : ℕ)
@@ -102,6 +105,6 @@ NeedsNoPremise f moves limit sorts root room =
     → IsWholeInRuns root.state.policy f
     → AsksNoStalls f moves sorts
     → MayLeaveSlices f moves root
-    → IsPlain root
+    → HasFew root
     → HasRoom moves root room
     → NoneIn moves limit sorts root

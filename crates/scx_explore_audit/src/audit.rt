@@ -36,7 +36,7 @@ pub fn none_in_lists(
         → FollowsRuns table.entry.form table.entry.numbers.now table.entry.moves
         table.entry.sorts.now path.old.root path.old.room
         → NoneIn table.entry.moves table.entry.limit table.entry.sorts.now path.old.root) }
-    // Of a form that keeps everything that is proved, by plain rules.
+    // Of a form that keeps everything that is proved.
     ensures whole { IfOk result (λ closed. closed ≡ true
         → NeedsNoPremise table.entry.form table.entry.moves table.entry.limit
         table.entry.sorts.now path.old.root path.old.room) }

@@ -86,10 +86,11 @@ pub fn reached_states_go_alike()
 /// two machines are the same but for these, an event is refused for the same cause, the same is noted, and they are so
 /// again after it; and after a list of events. Both show the same: the cause of an ejection, idle CPUs, and the words of
 /// a form that leaves out the number of pushes. And if all times of a machine are later by as much, and no program reads the
-/// clock, an event is refused for the same cause, and leads to the same machine, later; slices have to end exactly, and the
-/// periods of quotas to begin alike. If no program asks for a slice, and no insert gives one of 0, two machines that are the
-/// same but for slices of tasks that sleep or are held answer an event alike too. An insert gives none of 0 where the code
-/// shows that r3 holds a constant other than 0. The function does nothing: its contract is the law.
+/// clock, an event is refused for the same cause, and leads to the same machine, later; under Linux rules the time has to be
+/// made of whole ticks, and the periods of quotas have to begin alike. If no program asks for a slice, and no insert gives one
+/// of 0, two machines that are the same but for slices of tasks that sleep or are held answer an event alike too. An insert
+/// gives none of 0 where the code shows that r3 holds a constant other than 0. The function does nothing: its contract is the
+/// law.
 pub fn unread_parts_change_nothing()
     ensures event { EventsReadNoSuchPart }
     ensures list { ListsReadNoSuchPart }
@@ -139,13 +140,13 @@ pub fn unread_parts_are_respected()
     ensures { UnreadPartsAreRespected }
 {}
 
-/// If a form keeps all that programs can read, what it leaves out changes nothing, in lists from a machine that goes by plain
-/// rules, with no timers, at most eight tasks and sixteen CPUs. Such a form may leave out the number of pushes; the clock
-/// if no program reads it and slices end exactly; slices of tasks that sleep or are held if no program loads a slice and
-/// no insert gives one of 0; and keys, random numbers, run times and virtual times that no program inserts by, draws or
-/// loads. Waits may be left out of lists of events that aren't asked about stalls, if states are audited after fewer events
-/// than a task may wait milliseconds. It is enough if no program does so in a run that fits, where callbacks run as they were
-/// verified. And where lists are of events, and no group has a quota, slices that end may be left out, if no program loads a
+/// If a form keeps all that programs can read, what it leaves out changes nothing, in lists from a machine with at most eight
+/// tasks and sixteen CPUs, and with timers under Linux rules alone. Such a form may leave out the number of pushes; the clock
+/// if no program reads it; slices of tasks that sleep or are held if no program loads a slice and no insert gives one of 0;
+/// and keys, random numbers, run times and virtual times that no program inserts by, draws or loads. Waits may be left out of
+/// lists of events that aren't asked about stalls, if states are audited after fewer events than a task may wait
+/// milliseconds. It is enough if no program does so in a run that fits, where callbacks run as they were verified. And where
+/// lists are of events under plain rules, and no group has a quota, slices that end may be left out, if no program loads a
 /// slice or a run time: then ticks of a CPU until the slice of its task ends are tried in a row. The function does nothing: its
 /// contract is the law.
 pub fn whole_forms_are_respected()
@@ -167,11 +168,10 @@ pub fn counts_change_nothing()
 {}
 
 /// The form that a search computes keeps what programs can tell by their calls, where it tells tasks apart. It keeps all that
-/// they can read if slices end exactly, and no program asks for what it leaves out of the records of tasks, or tells a slice
-/// where it leaves slices out. Of a policy that is built of a file nothing of that is presumed: the form keeps all that its
-/// programs can read in each run that fits, as long as no program loads a slice where it leaves slices out. And if none has a
-/// load at the offset of a slice or a run time, none loads one, whatever it is given and answered. The function does nothing:
-/// its contract is the law.
+/// they can read if no program asks for what it leaves out of the records of tasks, or tells a slice where it leaves slices
+/// out. Of a policy that is built of a file nothing of that is presumed: the form keeps all that its programs can read in
+/// each run that fits. And if none has a load at the offset of a slice or a run time, none loads one, whatever it is given and
+/// answered. The function does nothing: its contract is the law.
 pub fn computed_forms_are_whole()
     ensures anyhow { ComputedFormsAreWhole }
     ensures runs { ComputedFormsAreWholeInRuns }
