@@ -5,7 +5,6 @@ use Rattle.scx_load_policies.specs.Policies.{PolicyFile}
 use Rattle.scx_load_policies.specs.Reading.{policy_text}
 use Rattle.scx_load_workloads.specs.Workload.{WorkloadState, first_tree}
 use Rattle.scx_sched_policy.specs.Policy.{PolicyState}
-use Rattle.scx_sched_world.specs.World.{are_linux}
 use Rattle.scx_sched.specs.Sim.{SimState}
 use Rattle.scx_explore_states.specs.declared.form.Form.{Form}
 use Rattle.scx_explore_states.specs.Written.{needs_slices}
@@ -20,7 +19,7 @@ use Rattle.scx_explore_bounds.proofs.Done.{left_none, right_none}
 use Rattle.scx_explore_audit.specs.declared.table.Moves.{Moves}
 use Rattle.scx_explore_audit.specs.declared.table.Moves.TheVariants.{Events}
 use Rattle.scx_explore_audit.specs.Whole.{MayLeaveSlices}
-use Rattle.scx_explore_audit.proofs.InRuns.{none_right, has_no_quota, computed_forms_are_whole_in_runs, programs_load_no_count}
+use Rattle.scx_explore_audit.proofs.InRuns.{none_right, goes_plainly, has_no_quota, computed_forms_are_whole_in_runs, programs_load_no_count}
 use Rattle.scx_explore_audit.proofs.Rowed.{with_slices}
 use Rattle.scxsim_runs.specs.Runs.{IsRun}
 use Rattle.scxsim_explore.specs.Telling.{KeepsAllRead, TellsFewApart}
@@ -100,6 +99,7 @@ module _ (policy workload : List ℕ) (b : Bounds) (w : WorkloadState) (s : SimS
       left_in e none =
           let neither : ((form_in mode.Events).slices || needs_slices s.state.world) ≡ false = ap (λ (m : Mode). (form_in m).slices || needs_slices s.state.world) (sym e) ∙ (sym slices_are ∙ none) in
           let loads = left_none (form_in mode.Events).slices (needs_slices s.state.world) neither in
+          let needs_none = right_none (form_in mode.Events).slices (needs_slices s.state.world) neither in
           inr (
             of_events e,
             ap (λ (g : Form). g.run_ns) f.suited.rest
@@ -107,7 +107,8 @@ module _ (policy workload : List ℕ) (b : Bounds) (w : WorkloadState) (s : SimS
                 ∙ (ap (λ (m : Mode). (form_in m).run_ns) e ∙ right_none u.slice u.run_ns (left_none (u.slice || u.run_ns) ((form_in mode.Events).names && u.has_count_load) loads))),
             programs_load_no_count file s.state.policy u built f.of_policy.form.done
                 (none_right (form_in mode.Events).names u.has_count_load (sym (names mode.Events e) ∙ named e) (right_none (u.slice || u.run_ns) ((form_in mode.Events).names && u.has_count_load) loads)),
-            has_no_quota s.state.world (right_none (form_in mode.Events).slices (needs_slices s.state.world) neither),
+            has_no_quota s.state.world needs_none,
+            goes_plainly s.state.world needs_none,
           )
 
       go : (x : Bool) → form.slices ≡ x → MayLeaveSlices form moves s
@@ -134,10 +135,8 @@ module _ (policy workload : List ℕ) (b : Bounds) (w : WorkloadState) (s : SimS
       go : (m : Mode) → b.mode ≡ m → record (form_in b.mode) { slices = true } ≡ form_of u (form_in b.mode).waits
       go m e = subst (λ (n : Mode). record (form_in n) { slices = true } ≡ form_of u (form_in n).waits) (sym e) (by m e)
 
-  pub keeps_all_read : KeepsAllRead policy b s form f
-  keeps_all_read named exact slices =
-      let whole = computed named in
-      subst (λ (g : Form). IsWholeInRuns s.state.policy g) (sym whole)
+  pub keeps_all_read : KeepsAllRead b s form
+  keeps_all_read named =
+      subst (λ (g : Form). IsWholeInRuns s.state.policy g) (sym (computed named))
       (with_slices form.slices s.state.policy (record (form_of u form.waits) { map_words = form.map_words })
-      (computed_forms_are_whole_in_runs file s.state.policy u form.waits form.map_words built f.of_policy.form.done exact
-      (λ linux loads. sym (ap (λ (g : Form). g.idle_slices) whole) ∙ slices (ap are_linux built.rules ∙ linux) loads)))
+      (computed_forms_are_whole_in_runs file s.state.policy u form.waits form.map_words built f.of_policy.form.done))

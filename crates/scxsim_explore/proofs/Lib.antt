@@ -3,5 +3,6 @@ mod Ended
 mod Named
 mod Started
 mod KeptWhole
+mod PlainTimers
 mod Sure
 mod Told

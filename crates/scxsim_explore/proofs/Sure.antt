@@ -1,16 +1,15 @@
--- By plain rules nothing is presumed of what is said after an audit, where tasks are told apart.
+-- Nothing is presumed of what is said after an audit, where tasks are told apart.
 use Rattle.std.proofs.Common.{◌≡◌, ℕ, zero, suc, ◌+◌, ◌*◌, ◌-◌, ◌^◌, ◌≤◌, min, if◌then◌else◌, Bool, true, false, List, [], ◌∷◌, ◌++◌, length, length-append, Option, Some, None, refl, sym, ap, ◌∙◌, subst, arith, inl, inr, ⊎_elim, All}
 use Rattle.std.proofs.Math.Nat.{mul-le-mul}
 use Rattle.std.proofs.lemmas.List.{length-replicate}
 use Rattle.std.specs.Prelude.{◌≢◌, IfSome}
 use Rattle.scx_load_workloads.specs.Workload.{WorkloadState, IsWorkload, first_tree}
-use Rattle.scx_sched_world.specs.World.{are_linux}
 use Rattle.scx_sched_policy.specs.Policy.{PolicyState, IsTimeout}
 use Rattle.scx_sched_machine.specs.declared.events.Event.{Event}
 use Rattle.scx_sched_machine.specs.declared.events.Event.TheVariants.{Wake, Sleep, Clock}
 use Rattle.scx_sched.specs.Sim.{SimState, max_events}
-use Rattle.scx_sched.proofs.First.{rules_started}
 use Rattle.scx_explore_findings.specs.declared.finding.Sort.TheVariants as sort
+use Rattle.scx_explore_findings.specs.WholeForms.{HasFew}
 use Rattle.scx_explore_findings.proofs.FirstLed.{first_policy}
 use Rattle.scx_explore_states.specs.declared.form.Form.{Form}
 use Rattle.scx_explore_bounds.specs.declared.bounds.Bounds.{Bounds}
@@ -30,7 +29,8 @@ use Rattle.scxsim_explore_lines.specs.Summary.{Nones}
 use Rattle.scxsim_explore.specs.declared.limits.Lists.{Lists}
 use Rattle.scxsim_explore.specs.Words.{IsBoundsOf, IsSmall, IsWithin, most_depth}
 use Rattle.scxsim_explore.specs.Telling.{IsGoneThrough, IsSure, NeedsNothing, moves_of}
-use Rattle.scxsim_explore.proofs.KeptWhole.{bits, keeps_waits, leaves_slices, may_leave_slices, keeps_all_read}
+use Rattle.scxsim_explore.proofs.PlainTimers.{plain_machines_have_no_timers}
+use Rattle.scxsim_explore.proofs.KeptWhole.{keeps_waits, leaves_slices, may_leave_slices, keeps_all_read}
 
 -- ---- the length of a millisecond
 
@@ -122,7 +122,7 @@ events_alone Milliseconds is = absurd (cc)
 
 pub needs_nothing : (policy workload : List ℕ) (l : Lists) (b : Bounds) (w : WorkloadState) (s : SimState) (form : Form) (n : Nones) → IsBoundsOf l b → IsRun policy workload w s → IsWithin b w s → IsFormFrom policy b s form
     → IsWorkload w → IsTimeout s.state.policy.timeout_ms → n.bounds ≡ b → (n.bounds.mode ≡ mode.Events → All (λ x. x ≢ sort.Stall) n.sorts) → IfSome n.again (IsGoneThrough form w s n) → NeedsNothing b s form n
-needs_nothing policy workload l b w s form n named run within f sound limit same stalls again plain exact told_apart = go n.again again
+needs_nothing policy workload l b w s form n named run within f sound limit same stalls again told_apart = go n.again again
   where
     p : PolicyState
     p = run.begun.machine
@@ -130,16 +130,18 @@ needs_nothing policy workload l b w s form n named run within f sound limit same
     policy_is : s.state.policy ≡ p
     policy_is = first_policy p (first_tree w) w.cpus s run.begun.first
 
-    plain_policy : are_linux s.state.policy.rules ≡ false
-    plain_policy =
-        ap (λ (q : PolicyState). are_linux q.rules) policy_is
-        ∙ (sym (ap are_linux (rules_started p (first_tree w) w.cpus s.state run.begun.first.0)) ∙ plain.rules)
-
     deep : b.depth ≤ 65535
     deep = deepest b.mode b.depth named.depth.most
 
     flags : length (first_tree w).active ≡ length (first_tree w).homes
     flags = length-replicate (length w.homes) false
+
+    few : HasFew s
+    few = record {
+      tasks = within.small.tasks;
+      cpus = omega (arith, within.small.cpus);
+      timers = λ plain. plain_machines_have_no_timers policy workload w s run sound plain;
+    }
 
     moves_are : (moves : Moves) → moves_of b.mode ≡ Some moves → b.mode ≡ mode.Events → moves ≡ Events
     moves_are moves of_mode of_events = events_alone moves (sym (ap moves_of of_events) ∙ of_mode)
@@ -166,8 +168,8 @@ needs_nothing policy workload l b w s form n named run within f sound limit same
         let sure : IsSure form b moves n.reach n.sorts s = subst (λ (c : Bounds). IsSure form c moves n.reach n.sorts s) same gone.sure in
         let of_mode : moves_of b.mode ≡ Some moves = sym (ap (λ (c : Bounds). moves_of c.mode) same) ∙ gone.of_mode in
         sure.whole p (first_tree w) w.cpus run.begun.first (shape_is_right w sound) flags (subst (λ (q : PolicyState). IsTimeout q.timeout_ms) policy_is limit)
-        (keeps_all_read policy workload b w s form run f told_apart exact (λ linux loads. absurd (bits (are_linux s.state.policy.rules) plain_policy linux))) (asks_none moves of_mode)
-        (may_leave_slices policy workload b w s form run f moves (moves_are moves of_mode) told_apart) plain (room_in moves sure.room form.slices of_mode sure.few refl)
+        (keeps_all_read policy workload b w s form run f told_apart) (asks_none moves of_mode)
+        (may_leave_slices policy workload b w s form run f moves (moves_are moves of_mode) told_apart) few (room_in moves sure.room form.slices of_mode sure.few refl)
 
     go : (o : Option Moves) → IfSome o (IsGoneThrough form w s n) → IfSome o (λ moves. NoneIn moves n.reach n.sorts s)
     go None h = h

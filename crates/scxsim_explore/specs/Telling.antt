@@ -2,7 +2,7 @@
 use Rattle.std.specs.Prelude.{◌≡◌, ◌≢◌, ℕ, ◌+◌, ◌-◌, ◌^◌, ◌≤◌, min, ⊤, ◌⊎◌, length, All, Bool, true, false, ◌||◌, List, [], ◌++◌, Option, Some, None, is_none, IfSome, IsSome}
 use Rattle.std.specs.Io.KnownBytes.{Appends}
 use Rattle.scx_load_workloads.specs.Workload.{WorkloadState}
-use Rattle.scx_sched_world.specs.World.{are_linux, binds}
+use Rattle.scx_sched_world.specs.World.{binds}
 use Rattle.scx_sched_world.specs.declared.faults.Fault.{Fault}
 use Rattle.scx_sched_machine.specs.declared.events.Event.{Event}
 use Rattle.scx_sched.specs.Sim.{SimState}
@@ -10,7 +10,7 @@ use Rattle.scxsim_trace.specs.Lines.{NameLists, names_of}
 use Rattle.scx_explore_findings.specs.declared.finding.Sort.{Sort}
 use Rattle.scx_explore_findings.specs.declared.finding.Sort.TheVariants as sort
 use Rattle.scx_explore_findings.specs.Findings.{Shows, sort_of}
-use Rattle.scx_explore_findings.specs.WholeForms.{IsPlain, IsWholeInRuns}
+use Rattle.scx_explore_findings.specs.WholeForms.{IsWholeInRuns}
 use Rattle.scx_explore_bounds.specs.Repeats.{most_in_rows}
 use Rattle.scx_explore_bounds.specs.declared.bounds.Bounds.{Bounds}
 use Rattle.scx_explore_bounds.specs.declared.bounds.Mode.{Mode}
@@ -79,7 +79,7 @@ pub record IsSure
       room
       ≤ most_in_rows form.slices b (length first.state.world.tasks) (length first.state.world.cpus)
   pub none : IsSureBy form moves limit sorts first room
-  -- of a form that keeps everything nothing is presumed, by plain rules
+  -- of a form that keeps everything nothing is presumed
   pub whole : NeedsNoPremise form moves limit sorts first room
 
 -- The summary may only say that states were audited if the lists of its lines are all lists of such
@@ -172,18 +172,13 @@ pub record IsTold
     pub reach : IsReach b w depths nones
     pub again : IfSome nones.again (IsGoneThrough form w first nones)
 
--- The form keeps all that the policy's programs can read in their runs, if slices end exactly and
--- it tells tasks apart, as it always does but in lists of events. By Linux rules that is only said
--- if it keeps slices of tasks that sleep or are held where a program loads a slice.
-abbrev pub KeepsAllRead :
-    (policy : List ℕ) (b : Bounds) (first : SimState) (form : Form)
-    → IsFormFrom policy b first form → Type 0
-KeepsAllRead policy b first form f =
-    (b.mode ≡ mode.Events → form.names ≡ true)
-    → first.state.policy.tick_ms ≡ 0
-    → (are_linux first.state.policy.rules ≡ true
-    → f.of_policy.form.uses.slice ≡ true → form.idle_slices ≡ true)
-    → IsWholeInRuns first.state.policy form
+-- the form tells tasks apart, as it always does but in lists of events
+abbrev pub TellsApart : Bounds → Form → Type 0
+TellsApart b form = b.mode ≡ mode.Events → form.names ≡ true
+
+-- a form that tells tasks apart keeps all that the policy's programs can read in their runs
+abbrev pub KeepsAllRead : Bounds → SimState → Form → Type 0
+KeepsAllRead b first form = TellsApart b form → IsWholeInRuns first.state.policy form
 
 -- The form tells tasks apart where there are few of them, all lists are searched, states need no
 -- slices, and no program may load a slice or a run time.
@@ -195,15 +190,11 @@ TellsFewApart policy b first form f =
     → may_load_counts f.of_policy.form.uses ≡ false
     → form.names ≡ true
 
--- By plain rules, without timers and where slices end exactly, nothing is presumed if the form
--- tells tasks apart, as it always does but in lists of events: if a line says that states were
--- audited, no list shows anything of its sorts.
+-- Nothing is presumed if the form tells tasks apart: if a line says that states were audited, no
+-- list shows anything of its sorts.
 abbrev pub NeedsNothing : Bounds → SimState → Form → Nones → Type 0
 NeedsNothing b first form n =
-    IsPlain first
-    → first.state.policy.tick_ms ≡ 0
-    → (b.mode ≡ mode.Events → form.names ≡ true)
-    → IfSome n.again (λ moves. NoneIn moves n.reach n.sorts first)
+    TellsApart b form → IfSome n.again (λ moves. NoneIn moves n.reach n.sorts first)
 
 -- The output has the summary, lists within the bounds, each with its events and its trace, and a
 -- last line if memory ran out meanwhile. The machine of the texts accepts each list, and the list
@@ -219,7 +210,7 @@ pub record IsExplored
     pub within : IsWithin b of_workload first
     pub form : Form
     pub of_policy : IsFormFrom policy b first form
-    pub keeps : KeepsAllRead policy b first form of_policy
+    pub keeps : KeepsAllRead b first form
     pub apart : TellsFewApart policy b first form of_policy
     pub told : IsTold form of_workload first b whole old new
     pub sure : NeedsNothing b first form told.nones
