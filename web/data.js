@@ -1,7 +1,8 @@
 "use strict";
 // Reads the stretches of the page.
 // A stretch is 16 bytes: from, length (u32 ms), task (u16), processor (u8), why (u8), queue (u16), 2 spare. The bits 64 and
-// 128 of why say that it began, and that it ended, as a millisecond ended: at a clock that is one less.
+// 128 of why say that it began, and that it ended, as a millisecond ended: at a clock that is one less. The bit 8 says that
+// before it the task waited without a tick: for a millisecond by the clock, which has no stretch.
 // Times are counted from the beginning of what is shown, which need not be that of the run: see momentText.
 // Of a run that has too many, those that are together no longer than `together` are one piece: from, length and parked (u16),
 // task, SEVERAL, 0, ran and waited (u16). CPUs and queues aren't known then.

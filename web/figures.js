@@ -16,7 +16,8 @@ function taskStretch(task, time, row) {
 
 function describe({ index, task, from, until }) {
   if (run.cpu[index] === SEVERAL) return describePiece(index, task, from, until);
-  const ran = run.cpu[index] !== NOWHERE, queue = run.queue[index], why = run.why[index], began = BEGAN[why >> 4 & 3];
+  const ran = run.cpu[index] !== NOWHERE, queue = run.queue[index], why = run.why[index];
+  const began = BEGAN[why >> 4 & 3] + (hasWaitBefore(run, index) ? ", and waited 1 ms" : "");
   const what = ran ? "ran on CPU " + run.cpu[index] : queue === PARKED ? "was parked" : "waited";
   const [begin, end] = ran ? [from, until] : [clockFrom(run, index), clockUntil(run, index)];
   const when = "from " + momentText(begin) + " to " + momentText(end) + ", " + timeText(end - begin);

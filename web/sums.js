@@ -276,22 +276,21 @@ function sumTrack(track, row) {
 const trackName = (run, queue) => queue < LOCAL ? queueName(run, queue) : "CPUs' own queues";
 
 const isWake = ({ why }, i) => (why[i] & 48) === 16;
-// True if the next stretch of a task follows at once. A task that was let go in between begins anew.
-const goesOn = ({ from, length, why }, i) => from[i] + length[i] === from[i + 1] && (why[i + 1] & 48) !== 48;
+// True if the next stretch of a task follows at once. A task that woke, was stopped or was let go in between begins anew.
+const goesOn = ({ from, length, why }, i) => from[i] + length[i] === from[i + 1] && (why[i + 1] & 48) === 0;
+// True if the task waited without a tick before a stretch.
+const hasWaitBefore = ({ from, why }, i) => (why[i] & 8) !== 0 && from[i] > 0;
 const isWait = ({ cpu, queue }, i) => cpu[i] === NOWHERE && queue[i] !== PARKED;
 const clockFrom = ({ from, why }, i) => Math.max(0, from[i] - (why[i] >> 6 & 1));
 const clockUntil = ({ from, length, why }, i) => from[i] + length[i] - (why[i] >> 7);
 
-// Calls `act` with the first and last stretch of each wait of a task: of stretches of waiting one after another. A wait from
-// the end of a millisecond to the beginning of the next, or to the end of what is shown, has none: there it is the run before
-// it, and no last one.
+// Calls `act` with the first and last stretch of each wait of a task: of stretches of waiting one after another. A wait without
+// a tick has none: there it is the stretch after it, and no last one.
 function eachWait(run, task, act) {
   const end = run.taskStart[task + 1];
   for (let i = run.taskStart[task], first = -1; i < end; i++) {
-    if (!isWait(run, i)) {
-      if (isStopped(run, i) && hasNoWait(run, i, end)) act(i, -1);
-      continue;
-    }
+    if (hasWaitBefore(run, i)) act(i, -1);
+    if (!isWait(run, i)) continue;
     if (first < 0) first = i;
     if (i + 1 < end && isWait(run, i + 1) && goesOn(run, i)) continue;
     act(first, i);
@@ -299,29 +298,21 @@ function eachWait(run, task, act) {
   }
 }
 
-const isStopped = ({ cpu, why }, i) => cpu[i] !== NOWHERE && (why[i] & 7) === 1;
-
-// True if a millisecond by the clock is between the end of a run and the task's next run, or the end, and no stretch.
-function hasNoWait(run, i, end) {
-  const until = run.from[i] + run.length[i], next = i + 1 < end && run.from[i + 1] === until;
-  if (next && run.cpu[i + 1] >= SEVERAL) return false;
-  return next ? clockUntil(run, i) < clockFrom(run, i + 1) : until === run.duration && clockUntil(run, i) < until;
-}
-
 // All waits, task by task: by ticks, when they began by the clock, by how many milliseconds they are less or more by the
 // clock, and whether they go on out of what is shown.
 function listWaits(run) {
-  const most = run.from.length, [from, length, clock] = [0, 1, 2].map(() => new Uint32Array(most));
+  const most = run.why.reduce((sum, _, i) => sum + isWait(run, i) + hasWaitBefore(run, i), 0);
+  const [from, length, clock] = [0, 1, 2].map(() => new Uint32Array(most));
   const [less, more, isCut] = [0, 1, 2].map(() => new Uint8Array(most)), waits = { from, length, clock, less, more, isCut };
   let count = 0;
   run.waitStart = new Uint32Array(run.tasks.length + 1);
   run.tasks.forEach((_, task) => {
     eachWait(run, task, (first, last) => {
-      const hasStretch = last >= 0, end = run.from[first] + run.length[first];
-      from[count] = hasStretch ? run.from[first] : end;
+      const hasStretch = last >= 0;
+      from[count] = run.from[first];
       length[count] = hasStretch ? run.from[last] + run.length[last] - run.from[first] : 0;
-      clock[count] = hasStretch ? clockFrom(run, first) : end - 1;
-      isCut[count] = hasStretch ? isCutWait(run, task, first, last) : end === run.duration && run.begin + end < run.ms;
+      clock[count] = hasStretch ? clockFrom(run, first) : run.from[first] - 1;
+      isCut[count] = hasStretch && isCutWait(run, task, first, last) ? 1 : 0;
       const later = hasStretch ? (run.why[first] >> 6 & 1) - (run.why[last] >> 7) : 1;
       less[count] = later < 0 ? 1 : 0;
       more[count++] = later > 0 && !(hasStretch && isLate(run, last)) ? 1 : 0;

@@ -1,3 +1,4 @@
 mod Refusing
 mod Summing
+mod Told
 mod Written

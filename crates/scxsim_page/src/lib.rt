@@ -5,6 +5,7 @@
 #![tactic(auto)]
 
 mod base64_lines;
+mod clocks;
 mod drafts;
 mod heads;
 mod passes;
@@ -17,5 +18,6 @@ mod stretch_parts;
 mod tails;
 mod task_states;
 
+pub use clocks::waits_are_told;
 pub use heads::Paths;
 pub use run_pages::view;

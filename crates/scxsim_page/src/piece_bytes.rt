@@ -78,5 +78,7 @@ fn beginning_code(beginning: Beginning) -> u8 {
         Beginning::Woke => 16,
         Beginning::WasStopped => 32,
         Beginning::WasLetGo => 48,
+        // As after a stop, with a wait without a tick before it.
+        Beginning::HadWaited => 32 | 8,
     }
 }

@@ -66,7 +66,10 @@ impl Recording {
                 self.tasks.enter(now, task, queue)
             }
             What::Move(task, cpu) => self.tasks.enter(now, task, local_number(cpu)),
-            What::Run(task, cpu) => self.tasks.run(now, task, place_of(cpu)),
+            What::Run(task, cpu) => {
+                let place = cpu.min(u32::from(NOWHERE)) as u8;
+                self.tasks.run(now, task, place)
+            }
             What::Stop(task, _) => self.tasks.stop(now, task),
             What::Stall(_) | What::Fault(_) | What::Exit(_) => {
                 self.ejection = Ejection::of(moment, what);
@@ -126,10 +129,4 @@ impl Recording {
             self.lines.add(piece);
         }
     }
-}
-
-/// A CPU, as a stretch has it.
-#[inline(always)]
-fn place_of(cpu: u32) -> u8 {
-    cpu.min(u32::from(NOWHERE)) as u8
 }

@@ -1,3 +1,4 @@
+use crate::clocks::is_without_tick;
 use crate::queue_numbers::{LOCAL_NUMBER, NO_QUEUE};
 use scxsim_template::{Beginning, End, NOWHERE, PARKED_NUMBER, Stretch, moment_of};
 use std::alloc::{AllocError, Global};
@@ -98,13 +99,21 @@ impl TaskStates {
             return task.end(number, now, End::Slept);
         }
         let stretch = task.end(number, now, End::Stopped);
-        task.beginning = Beginning::WasStopped;
+        if !matches!(task.beginning, Beginning::HadWaited) {
+            task.beginning = Beginning::WasStopped;
+        }
         stretch
     }
 
-    /// The run of the workload ends.
+    /// The run of the workload ends. A wait without a tick that has just ended has no next stretch, and so one of its own.
     pub(crate) fn end(&mut self, now: u64, number: u16) -> Option<Stretch> {
         let task = self.tasks.get_mut(number as usize)?;
+        let had_waited = matches!(task.beginning, Beginning::HadWaited);
+        if had_waited && moment_of(task.since) == moment_of(now) {
+            let queue = task.queue;
+            task.begin(now.saturating_sub(1), Doing::Waits { queue });
+            task.beginning = Beginning::WasStopped;
+        }
         task.end(number, now, End::RunOver)
     }
 }
@@ -129,7 +138,8 @@ impl TaskState {
     /// stretch, it is the beginning of that wait.
     #[inline(always)]
     fn since_in(&self, now: u64, before: Option<u16>, queue: u16) -> u64 {
-        let goes_on = waits_for_cpu(before) && queue != PARKED_NUMBER;
+        let waited = before.is_some() && before != Some(PARKED_NUMBER);
+        let goes_on = waited && queue != PARKED_NUMBER;
         if goes_on && moment_of(self.since) == moment_of(now) {
             self.since
         } else {
@@ -149,7 +159,7 @@ impl TaskState {
     }
 
     /// Ends its activity. There is no stretch of no time, but for a wait that goes on as the run ends: by the clock it
-    /// began before.
+    /// began before. Another wait without a tick is told with the next stretch.
     #[inline(always)]
     fn end(&mut self, number: u16, now: u64, end: End) -> Option<Stretch> {
         let (place, queue) = match self.doing {
@@ -159,6 +169,11 @@ impl TaskState {
         };
         self.doing = Doing::Neither;
         if !self.is_kept(now, place, end) {
+            let waited = place == NOWHERE && queue != PARKED_NUMBER;
+            let is_over = waited && !matches!(end, End::WentOn);
+            if is_over && is_without_tick(self.since, now) {
+                self.beginning = Beginning::HadWaited;
+            }
             return None;
         }
         let beginning = self.beginning;
@@ -179,14 +194,6 @@ impl TaskState {
     fn is_kept(&self, now: u64, place: u8, end: End) -> bool {
         moment_of(self.since) < moment_of(now)
             || self.since < now && place == NOWHERE && matches!(end, End::RunOver)
-    }
-}
-
-/// True if a task waits in a queue, and isn't parked.
-fn waits_for_cpu(queue: Option<u16>) -> bool {
-    match queue {
-        Some(queue) => queue != PARKED_NUMBER,
-        None => false,
     }
 }
 

@@ -37,6 +37,8 @@ pub enum Beginning {
     WasStopped,
     /// It had been let go.
     WasLetGo,
+    /// It had been stopped, and had waited without a tick before: for a millisecond by the clock.
+    HadWaited,
 }
 
 /// From one moment to another a task ran on a CPU, or waited.

@@ -265,27 +265,24 @@ track.most = 0;\nfor (let k = 1; k < row; k++) track.most = Math.max(track.most,
 delete track.offsets;\ndelete track.counts;\n}\n\
 const trackName = (run, queue) => queue < LOCAL ? queueName(run, queue) : \"CPUs' own queues\";\n\
 const isWake = ({ why }, i) => (why[i] & 48) === 16;\n\
-const goesOn = ({ from, length, why }, i) => from[i] + length[i] === from[i + 1] && (why[i + 1] & 48) !== 48;\n\
+const goesOn = ({ from, length, why }, i) => from[i] + length[i] === from[i + 1] && (why[i + 1] & 48) === 0;\n\
+const hasWaitBefore = ({ from, why }, i) => (why[i] & 8) !== 0 && from[i] > 0;\n\
 const isWait = ({ cpu, queue }, i) => cpu[i] === NOWHERE && queue[i] !== PARKED;\n\
 const clockFrom = ({ from, why }, i) => Math.max(0, from[i] - (why[i] >> 6 & 1));\n\
 const clockUntil = ({ from, length, why }, i) => from[i] + length[i] - (why[i] >> 7);\n\
 function eachWait(run, task, act) {\nconst end = run.taskStart[task + 1];\n\
-for (let i = run.taskStart[task], first = -1; i < end; i++) {\nif (!isWait(run, i)) {\n\
-if (isStopped(run, i) && hasNoWait(run, i, end)) act(i, -1);\ncontinue;\n}\nif (first < 0) first = i;\n\
+for (let i = run.taskStart[task], first = -1; i < end; i++) {\nif (hasWaitBefore(run, i)) act(i, -1);\n\
+if (!isWait(run, i)) continue;\nif (first < 0) first = i;\n\
 if (i + 1 < end && isWait(run, i + 1) && goesOn(run, i)) continue;\nact(first, i);\nfirst = -1;\n}\n}\n\
-const isStopped = ({ cpu, why }, i) => cpu[i] !== NOWHERE && (why[i] & 7) === 1;\nfunction hasNoWait(run, i, end) {\n\
-const until = run.from[i] + run.length[i], next = i + 1 < end && run.from[i + 1] === until;\n\
-if (next && run.cpu[i + 1] >= SEVERAL) return false;\n\
-return next ? clockUntil(run, i) < clockFrom(run, i + 1) : until === run.duration && clockUntil(run, i) < until;\n}\n\
 function listWaits(run) {\n\
-const most = run.from.length, [from, length, clock] = [0, 1, 2].map(() => new Uint32Array(most));\n\
+const most = run.why.reduce((sum, _, i) => sum + isWait(run, i) + hasWaitBefore(run, i), 0);\n\
+const [from, length, clock] = [0, 1, 2].map(() => new Uint32Array(most));\n\
 const [less, more, isCut] = [0, 1, 2].map(() => new Uint8Array(most)), waits = { from, length, clock, less, more, isCut };\n\
 let count = 0;\nrun.waitStart = new Uint32Array(run.tasks.length + 1);\nrun.tasks.forEach((_, task) => {\n\
-eachWait(run, task, (first, last) => {\nconst hasStretch = last >= 0, end = run.from[first] + run.length[first];\n\
-from[count] = hasStretch ? run.from[first] : end;\n\
+eachWait(run, task, (first, last) => {\nconst hasStretch = last >= 0;\nfrom[count] = run.from[first];\n\
 length[count] = hasStretch ? run.from[last] + run.length[last] - run.from[first] : 0;\n\
-clock[count] = hasStretch ? clockFrom(run, first) : end - 1;\n\
-isCut[count] = hasStretch ? isCutWait(run, task, first, last) : end === run.duration && run.begin + end < run.ms;\n\
+clock[count] = hasStretch ? clockFrom(run, first) : run.from[first] - 1;\n\
+isCut[count] = hasStretch && isCutWait(run, task, first, last) ? 1 : 0;\n\
 const later = hasStretch ? (run.why[first] >> 6 & 1) - (run.why[last] >> 7) : 1;\nless[count] = later < 0 ? 1 : 0;\n\
 more[count++] = later > 0 && !(hasStretch && isLate(run, last)) ? 1 : 0;\n});\nrun.waitStart[task + 1] = count;\n});\n\
 run.waits = Object.fromEntries(Object.entries(waits).map(([key, values]) => [key, values.slice(0, count)]));\n}\n\
@@ -846,7 +843,8 @@ if (i >= last || run.from[i] > time) return null;\n\
 return { index: i, task, kind: row.kind, number: row.number, from: run.from[i], until: run.from[i] + run.length[i] };\n\
 }\nfunction describe({ index, task, from, until }) {\n\
 if (run.cpu[index] === SEVERAL) return describePiece(index, task, from, until);\n\
-const ran = run.cpu[index] !== NOWHERE, queue = run.queue[index], why = run.why[index], began = BEGAN[why >> 4 & 3];\n\
+const ran = run.cpu[index] !== NOWHERE, queue = run.queue[index], why = run.why[index];\n\
+const began = BEGAN[why >> 4 & 3] + (hasWaitBefore(run, index) ? \", and waited 1 ms\" : \"\");\n\
 const what = ran ? \"ran on CPU \" + run.cpu[index] : queue === PARKED ? \"was parked\" : \"waited\";\n\
 const [begin, end] = ran ? [from, until] : [clockFrom(run, index), clockUntil(run, index)];\n\
 const when = \"from \" + momentText(begin) + \" to \" + momentText(end) + \", \" + timeText(end - begin);\n\
