@@ -293,14 +293,17 @@ def frames(window, maker):
 
 
 def waits_of(stretches):
-    """The waits by the clock: task, since and length. Those that go on in another queue are one."""
+    """The waits by the clock: task, since and length. Those that go on in another queue are one; a stretch says if there was
+    one without a tick before it."""
     waits, last = [], {}
     for since, length, task, cpu, why, queue in stretches:
+        if why & 8:
+            waits.append((task, [since, since - 1, 1, since]))
         if cpu != NOWHERE or queue == PARKED:
             last.pop(task, None)
             continue
         clock, until = since - (why >> 6 & 1), since + length
-        if task in last and last[task][3] == since and why & 48 != 48:
+        if task in last and last[task][3] == since and not why & 48:
             wait = last[task]
         else:
             wait = last[task] = [since, clock, 0, 0]
